@@ -1,0 +1,9 @@
+/* The functions that the benchmark compares: of the proved crate `bench`, and their plain counterparts. */
+#include <stddef.h>
+#include <stdint.h>
+
+size_t bench_write(uint8_t *buf, size_t len, const uint8_t *packets, size_t packets_len, size_t size);
+uint64_t bench_scan(const uint8_t *bytes, size_t len, size_t from, size_t to);
+
+size_t plain_write(uint8_t *buf, size_t len, const uint8_t *packets, size_t packets_len, size_t size);
+uint64_t plain_scan(const uint8_t *bytes, size_t len, size_t from, size_t to);

@@ -1,0 +1,98 @@
+/* Times the proved frame writer and bit scan beside the plain ones, on the same data in the same run, and stops where
+   their results differ. Each figure is the best of ROUNDS turns, the two sides taking turns. */
+#include "bench.h"
+#include <stdio.h>
+#include <stdlib.h>
+#include <string.h>
+#include <time.h>
+
+enum { PACKETS = 4000, SIZE = 19, ROUNDS = 40, ROOM = PACKETS * 32 };
+
+static double now(void)
+{
+    struct timespec t;
+    clock_gettime(CLOCK_MONOTONIC, &t);
+    return (double)t.tv_sec * 1e9 + (double)t.tv_nsec;
+}
+
+static uint32_t state = 2463534242u;
+
+static uint32_t noise(void)
+{
+    state ^= state << 13;
+    state ^= state >> 17;
+    state ^= state << 5;
+    return state;
+}
+
+static void differ(const char *what)
+{
+    printf("the two sides differ: %s\n", what);
+    exit(1);
+}
+
+static void report(const char *data, const char *what, double proved, double plain, size_t bits)
+{
+    printf("%-12s %-6s proved %5.2f ns/bit   plain C %5.2f ns/bit   ratio %4.2f\n", data, what, proved / (double)bits,
+           plain / (double)bits, proved / plain);
+}
+
+static void run(const char *name, const uint8_t *packets, double torn)
+{
+    static uint8_t ours[ROOM], theirs[ROOM];
+    double best[4] = {1e18, 1e18, 1e18, 1e18};
+    size_t bits = 0;
+    uint64_t found = 0;
+    memset(ours, 0, sizeof ours);
+    memset(theirs, 0, sizeof theirs);
+    for (int round = 0; round < ROUNDS; round++) {
+        double t0 = now();
+        size_t a = bench_write(ours, sizeof ours, packets, PACKETS * SIZE, SIZE);
+        double t1 = now();
+        size_t b = plain_write(theirs, sizeof theirs, packets, PACKETS * SIZE, SIZE);
+        double t2 = now();
+        if (a != b || memcmp(ours, theirs, sizeof ours))
+            differ("writing");
+        if (t1 - t0 < best[0])
+            best[0] = t1 - t0;
+        if (t2 - t1 < best[1])
+            best[1] = t2 - t1;
+        bits = a;
+    }
+    for (size_t i = 0; i < bits; i++)
+        if (noise() < torn * 4294967295.0)
+            ours[i / 8] ^= (uint8_t)(1u << (i % 8));
+    for (int round = 0; round < ROUNDS; round++) {
+        double t0 = now();
+        uint64_t a = bench_scan(ours, sizeof ours, 0, bits);
+        double t1 = now();
+        uint64_t b = plain_scan(ours, sizeof ours, 0, bits);
+        double t2 = now();
+        if (a != b)
+            differ("scanning");
+        if (t1 - t0 < best[2])
+            best[2] = t1 - t0;
+        if (t2 - t1 < best[3])
+            best[3] = t2 - t1;
+        found = a;
+    }
+    report(name, "write", best[0], best[1], bits);
+    report(name, "scan", best[2], best[3], bits);
+    printf("%-12s %zu bits, checksum of what passed %llu\n", name, bits, (unsigned long long)found);
+}
+
+int main(void)
+{
+    static uint8_t packets[PACKETS * SIZE];
+    for (size_t i = 0; i < sizeof packets; i++)
+        packets[i] = (uint8_t)(noise() >> 11);
+    run("random", packets, 0);
+    run("torn", packets, 0.002);
+    for (size_t i = 0; i < sizeof packets; i++)
+        packets[i] = i % 3 == 0 ? (uint8_t)i : 0xff;
+    run("ones", packets, 0);
+    for (size_t i = 0; i < sizeof packets; i++)
+        packets[i] = i % 5 == 0 ? (uint8_t)(noise() >> 11) : (uint8_t)(noise() >> 28);
+    run("telemetry", packets, 0);
+    return 0;
+}

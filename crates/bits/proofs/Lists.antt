@@ -1,0 +1,50 @@
+-- Laws of lists: a stretch written over a list (`sets` of lib.Seq), and lists that are filled up with one element.
+use mathlib.Core.Path.{_≡_, sym, ap, _∙_}
+use Prim.Native.Nat.{ℕ, zero, suc, _+_, _-_, _≤_}
+use native.Mathlib.Nat.{add-zero, zero-add, add-suc, suc-add, sub-zero, zero-sub, suc-sub-suc}
+use native.Mathlib.Omega.{arith}
+use mathlib.Core.List.{List, [], _∷_, _++_, append-assoc}
+use lib.ListN.{length, take, drop, set, replicate, length-append, length-replicate, replicate-append-replicate}
+use lib.Seq.{sets, sets-eq, take-append-seam, drop-append-add}
+
+module _ {ℓ} {A : Type ℓ} where
+  -- two stretches in turn are written as one
+  pub sets-append : (l : List A) (i : ℕ) (a b : List A) → sets l i (a ++ b) ≡ sets (sets l i a) (i + length a) b
+  sets-append l i [] b = rw add-zero
+  sets-append l i (x ∷ a) b = sets-append (set l i x) (suc i) a b ∙ rw (suc-add, add-suc)
+
+  -- a run of one element more
+  pub sets-replicate : (l : List A) (at i : ℕ) (z : A) → set (sets l at (replicate i z)) (at + i) z ≡ sets l at (replicate (i + 1) z)
+  sets-replicate l at i z =
+      sym
+      (rw (← replicate-append-replicate i 1 z) (sets-append l at (replicate i z) (z ∷ []) ∙ rw length-replicate))
+
+  -- a stretch written right behind x leaves x and what lies behind the stretch
+  pub sets-behind : (x y v : List A) → length v ≤ length y → sets (x ++ y) (length x) v ≡ x ++ (v ++ drop (length v) y)
+  sets-behind x y v h =
+      let fits : length x + length v ≤ length (x ++ y) = rw length-append (omega arith) in
+      sets-eq v (x ++ y) (length x) fits ∙ rw (take-append-seam, drop-append-add, append-assoc)
+
+  -- an element stored behind x
+  pub set-append-add : (x y : List A) (n : ℕ) (a : A) → set (x ++ y) (length x + n) a ≡ x ++ set y n a
+  set-append-add [] y n a = rw zero-add
+  set-append-add (b ∷ x) y n a = rw suc-add (ap (λ (r : List A). b ∷ r) (set-append-add x y n a))
+
+  -- what is left of a run of equal elements is a run
+  pub drop-replicate : (m k : ℕ) (z : A) → drop m (replicate k z) ≡ replicate (k - m) z
+  drop-replicate zero k z = rw sub-zero
+  drop-replicate (suc m) zero z = rw zero-sub
+  drop-replicate (suc m) (suc k) z = rw suc-sub-suc (drop-replicate m k z)
+
+  -- what is left of a list with a run behind it
+  pub drop-append-replicate : (m k : ℕ) (l : List A) (z : A) → drop m (l ++ replicate k z) ≡ drop m l ++ replicate (k - (m - length l)) z
+  drop-append-replicate zero k l z = rw (zero-sub, sub-zero)
+  drop-append-replicate (suc m) k [] z = rw sub-zero (drop-replicate (suc m) k z)
+  drop-append-replicate (suc m) k (x ∷ l) z = rw suc-sub-suc (drop-append-replicate m k l z)
+
+  -- the first m filled up to m, then the rest filled up to n: all filled up to m + n
+  pub fill-take-drop : (m n : ℕ) (l : List A) (z : A)
+      → (take m l ++ replicate (m - length (take m l)) z) ++ (drop m l ++ replicate (n - length (drop m l)) z) ≡ l ++ replicate (m + n - length l) z
+  fill-take-drop zero n l z = rw zero-add
+  fill-take-drop (suc m) n [] z = simp sub-zero (replicate-append-replicate (suc m) n z)
+  fill-take-drop (suc m) n (x ∷ l) z = simp (suc-add, suc-sub-suc) (ap (λ (r : List A). x ∷ r) (fill-take-drop m n l z))

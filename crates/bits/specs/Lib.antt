@@ -1,0 +1,2 @@
+-- The definitions of `bits`: user bits in bytes.
+pub mod Bits

@@ -1,0 +1,48 @@
+// User bits in bytes, lowest first: get one bit, put one bit, put a run of equal bits.
+//
+// A contract says what all bits of the buffer are afterwards; since a list of bytes is determined by its bits
+// (`bitsOf-injective` in proofs/Bits.antt), it determines every byte.
+ghost use mathlib.Core.Path.{_≡_};
+ghost use Prim.Native.Nat.{_+_, _*_, _^_, _≤_, _<_};
+ghost use mathlib.Core.Bool.{false};
+ghost use lib.ListN.{length, getD, set, replicate};
+ghost use lib.Seq.{sets};
+ghost use Rattle.bits.specs.Bits.{byteBits, bitsOf};
+
+// Bit `at` of the buffer.
+pub fn get_bit(s: &[u8], at: usize) -> bool
+    requires { ⌜ at < 8 * length (now s) ⌝ }
+    ensures { λ r. ⌜ r ≡ getD (bitsOf (now (s .entry))) at false ⌝ }
+{
+    (s[at / 8] >> (at % 8)) % 2 == 1
+}
+
+// The byte with its bit k, below 8, set to `bit`.
+fn with_bit(b: u8, k: usize, bit: bool) -> u8
+    requires { ⌜ k < 8 ⌝ }
+    ensures { λ r. ⌜ byteBits r ≡ set (byteBits b) k bit ⌝ }
+{
+    let old = b & (1 << k);
+    b - old + ((bit as u8) << k)
+}
+
+// Bit `at` of the buffer becomes `bit`.
+pub fn put_bit(s: &mut [u8], at: usize, bit: bool)
+    requires { ⌜ at < 8 * length (now s) ⌝ }
+    ensures { λ r. ⌜ bitsOf (now (s .exit)) ≡ set (bitsOf (now (s .entry))) at bit ⌝ }
+{
+    let i = at / 8;
+    s[i] = with_bit(s[i], at % 8, bit);
+}
+
+// The n bits from bit `at` on become `bit`.
+pub fn put_run(s: &mut [u8], at: usize, n: usize, bit: bool)
+    requires { ⌜ (at + n ≤ 8 * length (now s)) × (at + n < 2 ^ 64) ⌝ }
+    ensures { λ r. ⌜ bitsOf (now (s .exit)) ≡ sets (bitsOf (now (s .entry))) at (replicate n bit) ⌝ }
+{
+    let mut i = 0;
+    while i < n {
+        put_bit(s, at + i, bit);
+        i += 1;
+    }
+}

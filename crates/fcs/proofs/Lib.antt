@@ -1,0 +1,2 @@
+-- The laws of `fcs`.
+pub mod Laws

@@ -1,0 +1,2 @@
+-- The definitions of `fcs`: HDLC's 16-bit frame check sequence.
+pub mod Fcs
