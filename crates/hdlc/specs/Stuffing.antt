@@ -1,0 +1,42 @@
+-- Zero bit insertion, over bits in the order in which they are sent: "a 0 after every five ones, also when the five end the
+-- frame", and "Unstuffing drops the 0 after each five ones" (document 01, "Frames and bits").
+-- Both count down: a run of ones is told by how many more ones may come before the next bit is a stuffed zero.
+use Prim.Native.Nat.{ℕ, zero, suc}
+use mathlib.Core.Bool.{Bool, true, false}
+use mathlib.Core.List.{List, [], _∷_}
+
+-- the bits stuffed, where `room` more ones may come before the one behind which a 0 is put
+unfoldable pub stuffFrom : List Bool → ℕ → List Bool
+stuffFrom [] room = []
+stuffFrom (false ∷ bs) room = false ∷ stuffFrom bs 4
+stuffFrom (true ∷ bs) (suc room) = true ∷ stuffFrom bs room
+stuffFrom (true ∷ bs) zero = true ∷ false ∷ stuffFrom bs 4
+
+-- the room behind bits, for going on from the run of ones that they left
+unfoldable pub roomAfter : List Bool → ℕ → ℕ
+roomAfter [] room = room
+roomAfter (false ∷ bs) room = roomAfter bs 4
+roomAfter (true ∷ bs) (suc room) = roomAfter bs room
+roomAfter (true ∷ bs) zero = roomAfter bs 4
+
+-- the bits stuffed from the start of a frame
+unfoldable pub stuff : List Bool → List Bool
+stuff bs = stuffFrom bs 4
+
+-- the bits unstuffed, where `due` more ones make five, behind which a 0 is dropped; a sixth one, which no body has, is kept
+unfoldable pub unstuffFrom : List Bool → ℕ → List Bool
+unstuffFrom [] due = []
+unstuffFrom (true ∷ bs) (suc due) = true ∷ unstuffFrom bs due
+unstuffFrom (true ∷ bs) zero = true ∷ unstuffFrom bs zero
+unstuffFrom (false ∷ bs) (suc due) = false ∷ unstuffFrom bs 5
+unstuffFrom (false ∷ bs) zero = unstuffFrom bs 5
+
+-- a body unstuffed
+unfoldable pub unstuff : List Bool → List Bool
+unstuff bs = unstuffFrom bs 5
+
+-- how many ones end the bits, where n ones stand before them
+unfoldable pub endOnes : List Bool → ℕ → ℕ
+endOnes [] n = n
+endOnes (true ∷ bs) n = endOnes bs (suc n)
+endOnes (false ∷ bs) n = endOnes bs 0

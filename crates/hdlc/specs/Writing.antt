@@ -1,0 +1,49 @@
+-- What the writing functions of `hdlc` say of the buffer and of the pen.
+use Prim.Native.Nat.{ℕ, _+_, _*_, _^_, _≤_, _<_}
+use mathlib.Core.Bool.{Bool}
+use mathlib.Core.List.{List, _++_}
+use mathlib.Core.Path.{_≡_}
+use lib.ListN.{length}
+use lib.Seq.{sets}
+use Rattle.bits.specs.Bits.{bitsOf}
+use Rattle.fcs.specs.Fcs.{fcsRun, complement, lowFirst}
+use Rattle.hdlc.specs.Stuffing.{stuffFrom, roomAfter}
+use Rattle.hdlc.specs.Frames.{flag}
+use Rattle.hdlc.specs.declared.Pen.{Pen}
+
+-- the bits have room in the buffer from bit `at` on, and their numbers fit the machine's words
+pub record Room (buffer : List ℕ) (at : ℕ) (bits : List Bool) : Type 0 where
+  pub within : at + length bits ≤ 8 * length buffer
+  pub small : at + length bits < 2 ^ 64
+
+-- the bits are written over the buffer's from bit `at` on, and `end` is the number of the bit behind them
+pub record Written (old : List ℕ) (at : ℕ) (bits : List Bool) (new : List ℕ) (end : ℕ) : Type 0 where
+  pub buffer : bitsOf new ≡ sets (bitsOf old) at bits
+  pub behind : end ≡ at + length bits
+
+-- the bits stuffed on from the run of ones that the pen has behind it
+unfoldable pub stuffedBy : Pen → List Bool → List Bool
+stuffedBy pen bits = stuffFrom bits (pen .room)
+
+-- the pen behind the bits
+unfoldable pub penAfter : Pen → List Bool → Pen
+penAfter pen bits =
+    record {
+      at = pen .at + length (stuffedBy pen bits);
+      room = roomAfter bits (pen .room);
+      fcs = fcsRun (pen .fcs) bits;
+    }
+
+-- the bits are written, stuffed, at the pen, and `next` stands behind them, whatever FCS register it holds
+pub record Put (old : List ℕ) (pen : Pen) (bits : List Bool) (new : List ℕ) (next : Pen) : Type 0 where
+  pub written : Written old (pen .at) (stuffedBy pen bits) new (next .at)
+  pub room : next .room ≡ roomAfter bits (pen .room)
+
+-- the bits are written, stuffed, at the pen, and `next` is the pen behind them
+pub record Stuffed (old : List ℕ) (pen : Pen) (bits : List Bool) (new : List ℕ) (next : Pen) : Type 0 where
+  pub buffer : bitsOf new ≡ sets (bitsOf old) (pen .at) (stuffedBy pen bits)
+  pub behind : next ≡ penAfter pen bits
+
+-- what ends a frame: the FCS of what the pen has written, stuffed, and a flag
+unfoldable pub ending : Pen → List Bool
+ending pen = stuffedBy pen (bitsOf (lowFirst (complement (pen .fcs)))) ++ flag
