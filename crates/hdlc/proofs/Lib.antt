@@ -4,3 +4,4 @@ pub mod Stuffing
 pub mod Writing
 pub mod OneBit
 pub mod Ending
+pub mod FrameLength

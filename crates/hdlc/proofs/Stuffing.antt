@@ -1,5 +1,5 @@
--- What zero bit insertion keeps: unstuffing gives the bits back, stuffed bits hold no six ones in a row and do not end in
--- five, n bits grow by at most n / 5, and bits may be stuffed and unstuffed piece by piece.
+-- What zero bit insertion keeps: stuffed bits do not end in five ones and hold no six in a row, unstuffing gives the bits
+-- back, n bits grow by at most n / 5, and bits may be stuffed and unstuffed piece by piece.
 use Prim.Native.Nat.{ℕ, zero, suc, _+_, _-_, _*_, _/_, _≤_, _<_}
 use native.Mathlib.Omega.{arith}
 use mathlib.Core.Bool.{Bool, true, false}
@@ -11,6 +11,18 @@ use borrow.Author.Tests.{lt-ltb}
 use Rattle.hdlc.specs.Stuffing.{stuffFrom, roomAfter, stuff, unstuffFrom, unstuff, endOnes}
 use Rattle.hdlc.specs.Bodies.{holds}
 use Rattle.hdlc.proofs.NoSix.{NoSix, NoSix-holds}
+
+-- a stuffed body "does not end in five" ones, where n ones stand before it
+endOnes-stuffFrom : (bs : List Bool) (room n : ℕ) → n + room ≡ 4 → endOnes (stuffFrom bs room) n < 5
+unfolding stuffFrom endOnes
+endOnes-stuffFrom [] room n e = omega arith
+endOnes-stuffFrom (false ∷ bs) room n e = endOnes-stuffFrom bs 4 0 refl
+endOnes-stuffFrom (true ∷ bs) zero n e = endOnes-stuffFrom bs 4 0 refl
+endOnes-stuffFrom (true ∷ bs) (suc room) n e = endOnes-stuffFrom bs room (suc n) (omega arith)
+
+pub stuff-no-five-end : (bs : List Bool) → ltb (endOnes (stuff bs) 0) 5 ≡ true
+unfolding stuff
+stuff-no-five-end bs = lt-ltb (endOnes (stuffFrom bs 4) 0) 5 (endOnes-stuffFrom bs 4 0 refl)
 
 -- unstuffing gives the bits back
 unstuffFrom-stuffFrom : (bs : List Bool) (room : ℕ) → unstuffFrom (stuffFrom bs room) (suc room) ≡ bs
@@ -54,18 +66,6 @@ NoSix-stuff bs = NoSix-stuffFrom bs 4
 
 pub stuff-no-six : (bs : List Bool) → holds (replicate 6 true) (stuff bs) ≡ false
 stuff-no-six bs = NoSix-holds (stuff bs) (NoSix-stuff bs)
-
--- "and does not end in five", whatever ones n stand before it
-endOnes-stuffFrom : (bs : List Bool) (room n : ℕ) → n + room ≡ 4 → endOnes (stuffFrom bs room) n < 5
-unfolding stuffFrom endOnes
-endOnes-stuffFrom [] room n e = omega arith
-endOnes-stuffFrom (false ∷ bs) room n e = endOnes-stuffFrom bs 4 0 refl
-endOnes-stuffFrom (true ∷ bs) zero n e = endOnes-stuffFrom bs 4 0 refl
-endOnes-stuffFrom (true ∷ bs) (suc room) n e = endOnes-stuffFrom bs room (suc n) (omega arith)
-
-pub stuff-no-five-end : (bs : List Bool) → ltb (endOnes (stuff bs) 0) 5 ≡ true
-unfolding stuff
-stuff-no-five-end bs = lt-ltb (endOnes (stuffFrom bs 4) 0) 5 (endOnes-stuffFrom bs 4 0 refl)
 
 -- "n bits grow by at most n / 5 rounded down"
 length-stuffFrom : (bs : List Bool) (room : ℕ) → room ≤ 4 → 5 * length (stuffFrom bs room) + room ≤ 6 * length bs + 4

@@ -1,0 +1,130 @@
+-- `Framing::scan` meets its contract. The loop's invariant: scanning what is left from here equals scanning all from the start.
+use Prim.Native.Nat.{_-_, _≤_}
+use mathlib.Core.Path.{_≡_, refl, _∙_}
+use mathlib.Core.Logic.{⊎-elim}
+use native.Mathlib.Omega.{arith}
+use borrow.Author.Needs.{needs}
+use lib.ListN.{length}
+use lib.Seq.{slice}
+use Rattle.bits.specs.Bits.{bitsOf}
+use Rattle.bits.proofs.Bits.{length-bitsOf}
+use Rattle.framing.specs.Heads.{joined}
+use Rattle.framing.specs.Scanning.{ended, scan}
+use Rattle.framing.proofs.Turns.{scan-quiet, scan-nothing, scan-stopped, scan-end}
+use Rattle.framing.proofs.Framing.scan.Statement.{statement}
+use Rattle.framing.proofs.Framing.scan.Tie as tie
+
+abbrev Inv-loop : tie.InvT-loop
+Inv-loop bytes from to bits₀ head₀ at₀ bits head at =
+    (at ≤ to)
+    × (scan (joined head bits) at (slice at to (bitsOf bytes)) ≡ scan (joined head₀ bits₀) from (slice from to (bitsOf bytes)))
+
+abbrev μ-loop : tie.MeasureT-loop
+μ-loop bytes from to bits₀ head₀ at₀ bits head at = to - at
+
+head-requires : tie.Need-head-requires Inv-loop μ-loop
+head-requires c κs = search needs
+
+-- the bits to read are there
+long : (c : tie.Start Inv-loop μ-loop) → c .args .to ≤ length (bitsOf (c .args .bytes .now))
+long c = rw length-bitsOf (c .pre .1)
+
+-- what is left gives what the call asks for
+all : (c : tie.At-loop Inv-loop μ-loop)
+    → scan (joined (c .loop .head) (c .loop .bits)) (c .loop .at) (slice (c .loop .at) (c .before .before .before .before .args .to) (bitsOf (c .before .before .before .before .args .bytes .now)))
+    ≡ scan (c .before .before .before .before .args .self) (c .before .before .before .before .args .from) (slice (c .before .before .before .before .args .from) (c .before .before .before .before .args .to) (bitsOf (c .before .before .before .before .args .bytes .now)))
+all c = c .loop .inv .1 ∙ rw (c .before .head .ensures)
+
+loop-holds : tie.Need-loop-holds Inv-loop μ-loop
+loop-holds c = (omega arith, refl)
+
+get-bit-requires : tie.Need-get-bit-requires Inv-loop μ-loop
+get-bit-requires c κs = omega arith
+
+framing-requires : tie.Need-framing-requires Inv-loop μ-loop
+framing-requires c κs = search needs
+
+closes-requires : tie.Need-closes-requires Inv-loop μ-loop
+closes-requires c κs = search needs
+
+framing-requires-2 : tie.Need-framing-requires-2 Inv-loop μ-loop
+framing-requires-2 c κs = search needs
+
+check-requires : tie.Need-check-requires Inv-loop μ-loop
+check-requires c κs = search needs
+
+enum-told : tie.Need-enum-told Inv-loop μ-loop
+enum-told c = search needs
+
+step-requires : tie.Need-step-requires Inv-loop μ-loop
+step-requires c κs = search needs
+
+add-t17 : tie.Need-add-t17 Inv-loop μ-loop
+add-t17 c = omega arith
+
+returns : tie.Need-returns Inv-loop μ-loop
+returns c =
+    scan-stopped (joined (c .before .before .before .before .before .before .before .before .before .loop .head) (c .before .before .before .before .before .before .before .before .before .loop .bits)) _ (c .before .before .before .before .before .before .framing .ensures) (bitsOf (c .before .before .before .before .before .before .before .before .before .before .before .before .before .args .bytes .now)) (c .before .before .before .before .before .before .before .before .before .loop .at) (c .before .before .before .before .before .before .before .before .before .before .before .before .before .args .to) _ _
+    (c .before .before .before .before .before .before .before .before .loop-test .taken) (long (c .before .before .before .before .before .before .before .before .before .before .before .before .before)) (c .before .before .before .before .before .before .before .get-bit .ensures) (c .before .before .before .before .before .closes .ensures)
+    _ _ (c .before .before .before .before .if1 .taken) (c .before .before .before .framing2 .ensures) (c .before .before .check .ensures)
+    _ (c .before .match .keys2) (c .step .ensures)
+    ∙ all (c .before .before .before .before .before .before .before .before .before)
+
+step-requires-2 : tie.Need-step-requires-2 Inv-loop μ-loop
+step-requires-2 c κs = search needs
+
+add-at : tie.Need-add-at Inv-loop μ-loop
+add-at c = omega arith
+
+loop-less : tie.Need-loop-less Inv-loop μ-loop
+loop-less c = omega arith
+
+loop-again : tie.Need-loop-again Inv-loop μ-loop
+loop-again c = (
+  omega arith,
+  ⊎-elim
+      (λ w.
+      scan-nothing (joined (c .before .before .before .before .before .before .before .loop .head) (c .before .before .before .before .before .before .before .loop .bits)) _ (c .before .before .before .before .framing .ensures) (bitsOf (c .before .before .before .before .before .before .before .before .before .before .before .args .bytes .now)) (c .before .before .before .before .before .before .before .loop .at) (c .before .before .before .before .before .before .before .before .before .before .before .args .to) _ _
+      (c .before .before .before .before .before .before .loop-test .taken) (long (c .before .before .before .before .before .before .before .before .before .before .before)) (c .before .before .before .before .before .get-bit .ensures) (c .before .before .before .closes .ensures)
+      _ _ (w .0 .taken) (w .1 .ensures) (w .2 .ensures) _ (w .4 .given .1) (c .step2 .ensures))
+      (λ w.
+      scan-quiet (joined (c .before .before .before .before .before .before .before .loop .head) (c .before .before .before .before .before .before .before .loop .bits)) _ (c .before .before .before .before .framing .ensures) (bitsOf (c .before .before .before .before .before .before .before .before .before .before .before .args .bytes .now)) (c .before .before .before .before .before .before .before .loop .at) (c .before .before .before .before .before .before .before .before .before .before .before .args .to) _ _
+      (c .before .before .before .before .before .before .loop-test .taken) (long (c .before .before .before .before .before .before .before .before .before .before .before)) (c .before .before .before .before .before .get-bit .ensures) (c .before .before .before .closes .ensures)
+      _ (w .left) (c .step2 .ensures))
+      (c .before .before .if1 .came)
+      ∙ c .before .before .before .before .before .before .before .loop .inv .1,
+)
+
+framing-requires-3 : tie.Need-framing-requires-3 Inv-loop μ-loop
+framing-requires-3 c κs = search needs
+
+returns-2 : tie.Need-returns-2 Inv-loop μ-loop
+unfolding ended
+returns-2 c =
+    scan-end (joined (c .before .before .loop .head) (c .before .before .loop .bits)) _ (bitsOf (c .before .before .before .before .before .before .args .bytes .now)) (c .before .before .loop .at) (c .before .before .before .before .before .before .args .to)
+    (c .before .before .loop .inv .0) (c .before .loop-test .left) (c .framing3 .ensures)
+    ∙ all (c .before .before)
+
+pub scan-spec : {M : Type 1} → statement M
+scan-spec =
+    tie.close
+    (tie.spec
+    Inv-loop
+    μ-loop
+    head-requires
+    loop-holds
+    get-bit-requires
+    framing-requires
+    closes-requires
+    framing-requires-2
+    check-requires
+    enum-told
+    step-requires
+    add-t17
+    returns
+    step-requires-2
+    add-at
+    loop-less
+    loop-again
+    framing-requires-3
+    returns-2)

@@ -1,0 +1,21 @@
+-- The laws of `framing`.
+pub mod Framed
+pub mod ClosedFramed
+pub mod ClosingsFramed
+pub mod Void
+pub mod BodiesAhead
+pub mod FlagsAhead
+pub mod LongerBodies
+pub mod FramingFindsBodies
+pub mod Runs
+pub mod Reached
+pub mod Resync
+pub mod Stuffed
+pub mod ReachedLeft
+pub mod FramesPass
+pub mod RangeExact
+pub mod Scanned
+pub mod ScanFindsFirst
+pub mod Stepping
+pub mod Turns
+pub mod Cutting

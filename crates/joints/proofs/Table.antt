@@ -1,0 +1,33 @@
+-- Every case of the table, by computing both sides.
+use mathlib.Core.Bool.{xor}
+use mathlib.Core.Path.{refl}
+use Rattle.bits.specs.Bits.{odd, lowBits, byteBits, bitsOf}
+use Rattle.fcs.specs.Fcs.{poly, divided, fcsBit, fcsRun, preset, complement, fcsOf, lowFirst}
+use Rattle.hdlc.specs.Stuffing.{stuffFrom, stuff}
+use Rattle.hdlc.specs.Frames.{flag}
+use Rattle.hdlc.specs.Bodies.{startsWith, flagsFrom, flags, bodiesAfter, betweenFlags, bodies}
+use Rattle.framing.specs.Machine.{empty, fresh, oneRead, zeroRead, step, run, closes}
+use Rattle.framing.specs.Closings.{closings}
+use Rattle.joints.specs.Joints.{Joints}
+
+pub joints : Joints
+unfolding odd lowBits byteBits bitsOf stuffFrom stuff
+    flag startsWith flagsFrom flags bodiesAfter betweenFlags bodies
+    empty fresh oneRead zeroRead step run closes closings
+    xor poly divided fcsBit fcsRun preset complement fcsOf lowFirst
+joints =
+    record {
+      stuff-FF = refl;
+      stuff-F8 = refl;
+      stuff-7E = refl;
+      stuff-21-FF = refl;
+      two-flags = refl;
+      two-flags-no-body = refl;
+      two-flags-close-none = refl;
+      two-flags-read = refl;
+      fresh-no-flag = refl;
+      fresh-closes-none = refl;
+      fresh-read = refl;
+      fcs-digits = refl;
+      fcs-digits-sent = refl;
+    }

@@ -1,0 +1,2 @@
+-- The definitions of `joints`: the table of cases.
+pub mod Joints
