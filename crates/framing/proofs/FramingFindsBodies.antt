@@ -3,9 +3,9 @@
 -- The proof goes through the bits. Of each phase of the machine it says which bodies are still ahead: in phase 0 and 1 those
 -- where no flag is read yet, in phase 2 those behind a flag whose last zero is held back, in phase 3 and 4 those behind a flag
 -- and a body that is not void so far, whose unstuffed bits the machine keeps.
-use Prim.Native.Nat.{ℕ, suc, _+_, _≤_, _<_}
+use Prim.Native.Nat.{ℕ, suc, _+_, _<_}
 use native.Mathlib.Omega.{arith}
-use mathlib.Core.Bool.{Bool, true, false, cond}
+use mathlib.Core.Bool.{Bool, true, false}
 use mathlib.Core.List.{List, [], _∷_, _++_, map, append-assoc}
 use mathlib.Core.Path.{_≡_, refl, sym, ap, _∙_}
 use lib.ListN.{length, drop, replicate, length-append, length-replicate}

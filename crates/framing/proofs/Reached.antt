@@ -1,10 +1,10 @@
 -- The framings that bits leave, in five forms: `Reached` lists them, and each bit leads from one of them to one of them.
-use Prim.Native.Nat.{ℕ, suc, _%_, _≤_, _<_}
-use mathlib.Core.Bool.{Bool, true, false, cond, _&&_}
+use Prim.Native.Nat.{ℕ, suc, _%_, _≤_}
+use mathlib.Core.Bool.{Bool, true, false, cond}
 use mathlib.Core.List.{List, [], _∷_, _++_}
 use mathlib.Core.Path.{_≡_, refl}
 use native.Mathlib.Omega.{arith}
-use lib.Dec.{leb, ltb, eqb}
+use lib.Dec.{leb, eqb}
 use borrow.Author.Tests.{leb-true, le-leb, eqb-true}
 use Rattle.bits.proofs.Tests.{and-left, and-right}
 use Rattle.hdlc.specs.Stuffing.{endOnes}

@@ -6,11 +6,11 @@ use mathlib.Core.List.{List, []}
 use mathlib.Core.Path.{_≡_, refl, ap, _∙_}
 use native.Mathlib.Omega.{arith}
 use lib.ListN.{length, replicate}
-use lib.Dec.{leb, ltb, eqb, lit<}
+use lib.Dec.{leb, ltb, eqb}
 use Rattle.bits.specs.Bits.{odd, lowBits, byteBits}
 use Rattle.hdlc.specs.Frames.{flag}
 use Rattle.framing.specs.declared.Framing.{Framing}
-use Rattle.framing.specs.Machine.{empty, fresh, zeroRead, held, phaseAfter, keep, step, run, closes}
+use Rattle.framing.specs.Machine.{empty, fresh, zeroRead, held, keep, step, run, closes}
 use Rattle.framing.specs.Closings.{closings}
 use Rattle.framing.specs.Range.{LeftBy}
 use Rattle.framing.proofs.Framed.{framed, up-to-six, phaseAfter-inside, step-true-more, step-false-flag, step-one, step-seven, step-fresh-one}

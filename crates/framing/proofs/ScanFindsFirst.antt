@@ -2,17 +2,15 @@
 use Prim.Native.Nat.{ℕ, suc, _-_, _≤_}
 use mathlib.Core.Bool.{Bool, true, false, cond}
 use mathlib.Core.List.{List, [], _∷_}
-use mathlib.Core.Option.{Option, none, some}
 use mathlib.Core.Path.{_≡_, refl}
 use native.Mathlib.Omega.{arith}
-use lib.ListN.{take, replicate}
+use lib.ListN.{take}
 use Rattle.framing.specs.declared.Framing.{Framing}
 use Rattle.framing.specs.declared.Check.{Check}
 use Rattle.framing.specs.declared.Check.the-variants.{Packet, Spoilt, Nothing}
 use Rattle.framing.specs.declared.Scan.{Scan}
-use Rattle.hdlc.specs.Bodies.{Judged}
 use Rattle.framing.specs.Machine.{step, run, closes, check}
-use Rattle.framing.specs.Closings.{Closing, givenBy, closed, closings}
+use Rattle.framing.specs.Closings.{givenBy, closed, closings}
 use Rattle.framing.specs.Scanning.{ended, stopped, scan, giving, firstGiving, stoppedBy}
 use Rattle.framing.proofs.Scanned.{scan-cons, scan-least}
 

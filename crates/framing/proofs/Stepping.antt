@@ -1,25 +1,27 @@
--- What the functions' proofs cite: what a step writes into the framing's bytes, as the code writes it.
+-- What the functions' proofs cite, on plain values: what a step writes, whether a body passes and what it gives, and whether a
+-- framing is in range, each as the code finds it.
 use Prim.Native.Nat.{ℕ, _+_, _-_, _*_, _/_, _%_, _≤_, _<_}
 use mathlib.Core.Bool.{Bool, true, false, cond}
-use mathlib.Core.List.{List, [], _∷_, _++_}
-use mathlib.Core.Path.{_≡_, refl, sym, ap, _∙_}
+use mathlib.Core.List.{List, _∷_, _++_}
+use mathlib.Core.Path.{_≡_, refl, sym, _∙_}
 use native.Mathlib.Omega.{arith}
 use borrow.Author.Tests.{lt-ltb, le-leb, lt-leb, eq-eqb, ne-eqb}
 use lib.ListN.{length, take, drop, getD, replicate, length-append, length-replicate}
 use lib.Seq.{sets, length-take-le, getD-take, take-take}
 use lib.Dec.{eqb, leb}
-use Rattle.bits.specs.Bits.{bitsOf, fillBytes, Bytes}
+use Rattle.bits.specs.Bits.{bitsOf, Bytes}
 use Rattle.bits.proofs.Bits.{fillBytes-bitsOf}
 use Rattle.bits.proofs.Lists.{sets-append}
 use Rattle.fcs.specs.Fcs.{fcsOf}
 use Rattle.hdlc.specs.Bodies.{fcsRight}
 use Rattle.framing.specs.declared.Framing.{Framing}
-use Rattle.framing.specs.declared.Check.{Check}
 use Rattle.framing.specs.declared.Check.the-variants.{Packet, Spoilt, Nothing}
 use Rattle.framing.specs.declared.Whole.{Whole}
 use Rattle.framing.specs.Machine.{held, phaseAfter, keep, whole, wholeOf, check}
 use Rattle.framing.specs.Heads.{filled}
 use Rattle.framing.specs.Range.{allZero, kept, phaseRight, inRange}
+
+-- ---- the bits held back
 
 -- two runs written one behind the other
 pub filled-runs : (old mid new : List ℕ) (at m n : ℕ) (a b : Bool) → length new ≡ length old → Bytes new
@@ -29,18 +31,20 @@ filled-runs old mid new at m n a b l B p q =
     sym (fillBytes-bitsOf new B)
     ∙ rw (l, q, p, sets-append (bitsOf old) at (replicate m a) (replicate n b), length-replicate)
 
--- the bits held back are a plain zero or none, and the ones
+-- a plain zero or none, and the ones
 zeros-ones : (t : Bool) (bs : List Bool) → cond t (false ∷ bs) bs ≡ replicate (cond t 1 0) false ++ bs
 zeros-ones true bs = refl
 zeros-ones false bs = refl
 
--- it is at most one zero
+-- at most one zero
 pub plain-le : (phase m : ℕ) → m ≡ cond (eqb phase 3) 1 0 → m ≤ 1
 plain-le phase m e = rw e (go (eqb phase 3))
   where
     go : (t : Bool) → cond t 1 0 ≤ 1
     go true = omega arith
     go false = omega arith
+
+-- ---- a zero read in a body: p is the next phase, m the number of plain zeros
 
 module _ (f : Framing) (p m : ℕ) (hp : p ≡ phaseAfter (f .ones)) (hm : m ≡ cond (eqb (f .phase) 3) 1 0) where
   held-runs : held f ≡ replicate m false ++ replicate (f .ones) true
@@ -50,17 +54,19 @@ module _ (f : Framing) (p m : ℕ) (hp : p ≡ phaseAfter (f .ones)) (hm : m ≡
   count-held : f .count + length (held f) ≡ f .count + m + f .ones
   count-held = rw (held-runs, length-append) (simp length-replicate (omega arith))
 
-  -- a zero read in a body, where the bits held back have room
+  -- the bits held back have room
   pub keep-room : (new : List ℕ) → f .count + m + f .ones ≤ 168 → length (f .bits) ≡ 21
       → new ≡ filled (f .bits) (f .count) (replicate m false ++ replicate (f .ones) true)
       → record { phase = p; ones = 0; count = f .count + m + f .ones; bits = new } ≡ keep f
   unfolding keep
   keep-room new h l e = rw (count-held, le-leb _ _ h, held-runs, hp, e, l)
 
-  -- and where they have none
+  -- they have none
   pub keep-full : 168 < f .count + m + f .ones → record { phase = p; ones = 0; count = 169; bits = replicate 21 0 } ≡ keep f
   unfolding keep
   keep-full h = rw (count-held, lt-leb _ _ h, hp)
+
+-- ---- the body check
 
 -- the FCS of the first n bytes, read where it stands among all of them
 fcsRight-take : (n : ℕ) (bytes : List ℕ) → 2 ≤ n → n ≤ length bytes
@@ -123,6 +129,8 @@ module _ (f : Framing) (w : Whole) (is : w ≡ wholeOf f) where
 
   pub check-nothing : w ≡ Whole.Broken → f .count < 32 → Nothing ≡ check f
   check-nothing e h = rw (check-broken e, lt-leb _ _ h)
+
+-- ---- the range
 
 -- whether a framing is in range, from whether its unused places are 0
 module _ (f : Framing) (n : ℕ) (z : Bool) (few : f .ones < 7) (low : f .count < 170) (is : n ≡ kept f)

@@ -11,7 +11,6 @@ use lib.Seq.{append-snoc}
 use lib.Dec.{eqb}
 use borrow.Author.Tests.{lt-leb, ne-eqb}
 use Rattle.bits.specs.Bits.{odd, lowBits, byteBits}
-use Rattle.bits.proofs.Bits.{length-byteBits}
 use Rattle.hdlc.specs.Stuffing.{stuffFrom, roomAfter, stuff}
 use Rattle.hdlc.specs.Frames.{flag}
 use Rattle.hdlc.proofs.Ending.{length-flag}

@@ -2,7 +2,7 @@
 use Prim.Native.Nat.{ℕ, suc, _+_, _≤_, _<_, min}
 use mathlib.Core.Bool.{Bool, true, false, cond}
 use mathlib.Core.List.{List, [], _∷_}
-use mathlib.Core.Path.{_≡_, refl, sym, ap, _∙_}
+use mathlib.Core.Path.{_≡_, refl}
 use mathlib.Core.Logic.{⊎-elim}
 use native.Mathlib.Numerals.{add-one}
 use native.Mathlib.Omega.{arith}
@@ -10,6 +10,8 @@ use lib.ListN.{length, take, drop, getD, length-take, drop-of-length-le}
 use lib.Seq.{slice, slice-empty, slice-cons, drop-cons, getD-take}
 use types.Run.{OneOf}
 use denote.Enum.Declared.{tagOf}
+use Rattle.bits.specs.Bits.{bitsOf}
+use Rattle.bits.proofs.Bits.{length-bitsOf}
 use Rattle.hdlc.specs.Stuffing.{endOnes}
 use Rattle.framing.specs.declared.Framing.{Framing}
 use Rattle.framing.specs.declared.Check.{Check}
@@ -19,6 +21,10 @@ use Rattle.framing.proofs.Check.{the-type}
 use Rattle.framing.specs.Machine.{step, closes, check}
 use Rattle.framing.specs.Range.{allZero}
 use Rattle.framing.specs.Scanning.{ended, stopped, scan}
+
+-- 21 bytes are 168 bits
+pub length-bits-21 : (bytes : List ℕ) → length bytes ≡ 21 → length (bitsOf bytes) ≡ 168
+length-bits-21 bytes l = rw (length-bitsOf, l)
 
 -- ---- bits that are all 0
 
@@ -68,13 +74,19 @@ stopped-by (Packet n) f b at later t = refl
 stopped-by Spoilt f b at later t = refl
 stopped-by Nothing f b at later t = absurd (⊎-elim (λ z. omega arith) (λ z. omega arith) t)
 
--- one turn, with the bit b at number at; g is the framing f as the code asks it whether b closes a body
-module _ (f g : Framing) (same : g ≡ f) (bs : List Bool) (at to : ℕ) (b t : Bool) (h : at < to) (l : to ≤ length bs)
-    (is : b ≡ getD bs at false) (ct : t ≡ closes g b) where
+-- one turn: b is the bit at number at, g the framing f as the code asks it whether b closes a body, and t its answer
+pub record Turn (f g : Framing) (bs : List Bool) (at to : ℕ) (b t : Bool) : Type 0 where
+  pub same : g ≡ f
+  pub below : at < to
+  pub there : to ≤ length bs
+  pub bit : b ≡ getD bs at false
+  pub closing : t ≡ closes g b
+
+module _ {f g : Framing} {bs : List Bool} {at to : ℕ} {b t : Bool} (turn : Turn f g bs at to b t) where
   scan-cons : scan f at (slice at to bs)
       ≡ cond t (stopped (check f) f b at (scan (step f b) (at + 1) (slice (at + 1) to bs))) (scan (step f b) (at + 1) (slice (at + 1) to bs))
   unfolding scan
-  scan-cons = rw (slice-cons at to bs false h l, ← is, ct, same, add-one)
+  scan-cons = rw (slice-cons at to bs false (turn .below) (turn .there), ← (turn .bit), turn .closing, turn .same, add-one)
 
   -- it closes none
   pub scan-quiet : (r : Framing) → t ≡ false → r ≡ step f b

@@ -1,10 +1,10 @@
 -- "A framing that no bits leave" (document 01, refusal 14) is out of range: `LeftBy` says that some bits leave a framing, and
 -- `inRange` is the test by which the code decides it; `in-range-left` and `left-in-range` say that they agree.
 use Prim.Native.Nat.{ℕ, _%_}
-use mathlib.Core.Bool.{Bool, true, false, cond, not, _&&_, _||_}
+use mathlib.Core.Bool.{Bool, true, cond, not, _&&_, _||_}
 use mathlib.Core.List.{List, [], _∷_}
 use mathlib.Core.Path.{_≡_}
-use lib.ListN.{length, take, drop}
+use lib.ListN.{take, drop}
 use lib.Dec.{leb, ltb, eqb}
 use Rattle.bits.specs.Bits.{bitsOf}
 use Rattle.hdlc.specs.Stuffing.{endOnes}

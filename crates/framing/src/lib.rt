@@ -3,7 +3,7 @@ ghost use mathlib.Core.Path.{_≡_};
 ghost use mathlib.Core.Bool.{true, false, cond};
 ghost use mathlib.Core.List.{_++_};
 ghost use Prim.Native.Nat.{_+_, _*_, _^_, _≤_, _<_};
-ghost use lib.Dec.{eqb, ltb};
+ghost use lib.Dec.{eqb};
 ghost use lib.ListN.{length, take, drop, replicate};
 ghost use lib.Seq.{slice};
 ghost use Rattle.bits.specs.Bits.{bitsOf};
@@ -44,9 +44,9 @@ enum Whole {
 
 // The numbers of a framing without its bits, which a scan changes in place.
 struct Head {
-    pub phase: u8,
-    pub ones: u8,
-    pub count: u8,
+    phase: u8,
+    ones: u8,
+    count: u8,
 }
 
 impl Head {

@@ -1,13 +1,12 @@
 -- How long a frame is: "n bits grow by at most n / 5, rounded down" (document 01, "Frames and bits").
 use Prim.Native.Nat.{ℕ, _+_, _*_, _/_, _^_, _≤_, _<_}
-use mathlib.Core.Bool.{Bool}
 use mathlib.Core.List.{List, _++_}
 use mathlib.Core.Path.{_≡_}
 use native.Mathlib.Omega.{arith}
 use lib.ListN.{length, length-append}
 use Rattle.bits.specs.Bits.{bitsOf}
 use Rattle.bits.proofs.Bits.{length-bitsOf}
-use Rattle.fcs.specs.Fcs.{fcsOf, lowFirst}
+use Rattle.fcs.specs.Fcs.{lowFirst}
 use Rattle.hdlc.specs.Frames.{flag, withFcs, frame}
 use Rattle.hdlc.specs.Writing.{Room}
 use Rattle.hdlc.proofs.Stuffing.{length-stuff}

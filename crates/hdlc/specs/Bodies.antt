@@ -1,6 +1,6 @@
 -- Flags and bodies in any bits, and what a body gives (document 01, "Frames and bits" and "Notices").
-use Prim.Native.Nat.{ℕ, suc, _+_, _-_, _*_, _/_, _%_}
-use mathlib.Core.Bool.{Bool, true, false, cond, not, Bool·beq, _&&_, _||_}
+use Prim.Native.Nat.{ℕ, suc, _+_, _-_, _*_, _%_}
+use mathlib.Core.Bool.{Bool, true, false, cond, Bool·beq, _&&_, _||_}
 use mathlib.Core.List.{List, [], _∷_}
 use lib.ListN.{length, take, drop, getD, replicate}
 use lib.Dec.{leb, ltb, eqb}

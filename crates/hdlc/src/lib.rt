@@ -1,6 +1,5 @@
 // Writing HDLC frames into a lent buffer: bits are stuffed as the bytes are known, and no packet or FCS is kept.
 ghost use mathlib.Core.Path.{_≡_};
-ghost use mathlib.Core.Bool.{Bool};
 ghost use mathlib.Core.List.{[], _∷_, _++_};
 ghost use Rattle.bits.specs.Bits.{byteBits, bitsOf};
 ghost use Rattle.hdlc.specs.Frames.{flag, frame};

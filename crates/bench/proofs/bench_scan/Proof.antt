@@ -1,6 +1,5 @@
 -- `bench::bench_scan` meets its contract: each turn of its loop reads a bit at least, and adds at most 511. Assumes nothing.
 use Prim.Native.Nat.{_-_, _*_, _^_, _≤_, _<_}
-use mathlib.Core.Path.{_≡_, sym}
 use native.Mathlib.Omega.{arith}
 use lib.ListN.{length}
 use Rattle.bits.specs.Bits.{bitsOf}

@@ -7,9 +7,8 @@ use native.Mathlib.Omega.{arith}
 use borrow.Author.Needs.{needs}
 use lib.ListN.{length, take, drop}
 use Rattle.bits.specs.Bits.{bitsOf}
-use Rattle.bits.proofs.Bits.{length-bitsOf}
 use Rattle.hdlc.specs.Stuffing.{endOnes}
-use Rattle.framing.proofs.Turns.{endOnes-one, endOnes-zero, endOnes-end}
+use Rattle.framing.proofs.Turns.{length-bits-21, endOnes-one, endOnes-zero, endOnes-end}
 use Rattle.framing.proofs.end_ones.Statement.{statement}
 use Rattle.framing.proofs.end_ones.Tie as tie
 
@@ -22,9 +21,7 @@ abbrev μ-loop : tie.MeasureT-loop
 
 -- 21 bytes are 168 bits
 long : (c : tie.Start Inv-loop μ-loop) → length (bitsOf (c .args .t1)) ≡ 168
-long c =
-    let l : length (c .args .t1) ≡ 21 = search needs in
-    rw (length-bitsOf, l)
+long c = length-bits-21 (c .args .t1) (search needs)
 
 loop-holds : tie.Need-loop-holds Inv-loop μ-loop
 loop-holds c = (omega arith, omega arith, refl)

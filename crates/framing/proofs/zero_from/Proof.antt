@@ -5,9 +5,8 @@ use native.Mathlib.Omega.{arith}
 use borrow.Author.Needs.{needs}
 use lib.ListN.{length, drop}
 use Rattle.bits.specs.Bits.{bitsOf}
-use Rattle.bits.proofs.Bits.{length-bitsOf}
 use Rattle.framing.specs.Range.{allZero}
-use Rattle.framing.proofs.Turns.{allZero-one, allZero-zero, allZero-end}
+use Rattle.framing.proofs.Turns.{length-bits-21, allZero-one, allZero-zero, allZero-end}
 use Rattle.framing.proofs.zero_from.Statement.{statement}
 use Rattle.framing.proofs.zero_from.Tie as tie
 
@@ -19,9 +18,7 @@ abbrev μ-loop : tie.MeasureT-loop
 
 -- 21 bytes are 168 bits
 long : (c : tie.Start Inv-loop μ-loop) → length (bitsOf (c .args .t1)) ≡ 168
-long c =
-    let l : length (c .args .t1) ≡ 21 = search needs in
-    rw (length-bitsOf, l)
+long c = length-bits-21 (c .args .t1) (search needs)
 
 loop-holds : tie.Need-loop-holds Inv-loop μ-loop
 loop-holds c = refl

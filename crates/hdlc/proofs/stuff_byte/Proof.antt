@@ -2,7 +2,6 @@
 -- written from the start.
 use Prim.Native.Nat.{_+_, _-_, _/_, _≤_}
 use mathlib.Core.List.{[], _∷_}
-use mathlib.Core.Path.{refl}
 use native.Mathlib.Omega.{arith}
 use Rattle.bits.specs.Bits.{odd, lowBits, byteBits}
 use Rattle.hdlc.proofs.Writing.{ToGo, ToGo-start, ToGo-room, ToGo-step, ToGo-end, Put-Stuffed, lowBits-step, lowBits-none}

@@ -1,7 +1,7 @@
 -- `hdlc::stuff_bytes` meets its contract. The loop's invariant: the bits of the bytes left, written from here, are all of them
 -- written from the start, and so is the FCS register.
 use Prim.Native.Nat.{_+_, _-_, _≤_, _<_}
-use mathlib.Core.Path.{_≡_, refl, _∙_, sym}
+use mathlib.Core.Path.{_≡_, refl}
 use native.Mathlib.Omega.{arith}
 use lib.ListN.{length, getD, drop}
 use Rattle.bits.specs.Bits.{byteBits, bitsOf}

@@ -10,7 +10,7 @@ use Rattle.bits.specs.Bits.{bitsOf}
 use Rattle.bits.proofs.Bits.{length-bitsOf}
 use Rattle.framing.specs.Heads.{joined}
 use Rattle.framing.specs.Scanning.{ended, scan}
-use Rattle.framing.proofs.Turns.{scan-quiet, scan-nothing, scan-stopped, scan-end}
+use Rattle.framing.proofs.Turns.{Turn, scan-quiet, scan-nothing, scan-stopped, scan-end}
 use Rattle.framing.proofs.Framing.scan.Statement.{statement}
 use Rattle.framing.proofs.Framing.scan.Tie as tie
 
@@ -30,10 +30,33 @@ long : (c : tie.Start Inv-loop μ-loop) → c .args .to ≤ length (bitsOf (c .a
 long c = rw length-bitsOf (c .pre .1)
 
 -- what is left gives what the call asks for
-all : (c : tie.At-loop Inv-loop μ-loop)
-    → scan (joined (c .loop .head) (c .loop .bits)) (c .loop .at) (slice (c .loop .at) (c .before .before .before .before .args .to) (bitsOf (c .before .before .before .before .args .bytes .now)))
-    ≡ scan (c .before .before .before .before .args .self) (c .before .before .before .before .args .from) (slice (c .before .before .before .before .args .from) (c .before .before .before .before .args .to) (bitsOf (c .before .before .before .before .args .bytes .now)))
+all : (c : tie.At-loop Inv-loop μ-loop) →
+    let a = c .before .before .before .before .args in
+    let l = c .loop in
+    scan (joined (l .head) (l .bits)) (l .at) (slice (l .at) (a .to) (bitsOf (a .bytes .now)))
+    ≡ scan (a .self) (a .from) (slice (a .from) (a .to) (bitsOf (a .bytes .now)))
 all c = c .loop .inv .1 ∙ rw (c .before .head .ensures)
+
+-- what is known of a turn
+turn : (c : tie.After-closes Inv-loop μ-loop) →
+    let a = c .before .before .before .before .before .before .before .before .args in
+    let l = c .before .before .before .before .loop in
+    Turn
+    (joined (l .head) (l .bits))
+    (c .before .framing .result)
+    (bitsOf (a .bytes .now))
+    (l .at)
+    (a .to)
+    (c .before .before .get-bit .result)
+    (c .closes .result)
+turn c =
+    record {
+      same = c .before .framing .ensures;
+      below = c .before .before .before .loop-test .taken;
+      there = long (c .before .before .before .before .before .before .before .before);
+      bit = c .before .before .get-bit .ensures;
+      closing = c .closes .ensures;
+    }
 
 loop-holds : tie.Need-loop-holds Inv-loop μ-loop
 loop-holds c = (omega arith, refl)
@@ -64,10 +87,13 @@ add-t17 c = omega arith
 
 returns : tie.Need-returns Inv-loop μ-loop
 returns c =
-    scan-stopped (joined (c .before .before .before .before .before .before .before .before .before .loop .head) (c .before .before .before .before .before .before .before .before .before .loop .bits)) _ (c .before .before .before .before .before .before .framing .ensures) (bitsOf (c .before .before .before .before .before .before .before .before .before .before .before .before .before .args .bytes .now)) (c .before .before .before .before .before .before .before .before .before .loop .at) (c .before .before .before .before .before .before .before .before .before .before .before .before .before .args .to) _ _
-    (c .before .before .before .before .before .before .before .before .loop-test .taken) (long (c .before .before .before .before .before .before .before .before .before .before .before .before .before)) (c .before .before .before .before .before .before .before .get-bit .ensures) (c .before .before .before .before .before .closes .ensures)
-    _ _ (c .before .before .before .before .if1 .taken) (c .before .before .before .framing2 .ensures) (c .before .before .check .ensures)
-    _ (c .before .match .keys2) (c .step .ensures)
+    scan-stopped (turn (c .before .before .before .before .before)) _ _
+    (c .before .before .before .before .if1 .taken)
+    (c .before .before .before .framing2 .ensures)
+    (c .before .before .check .ensures)
+    _
+    (c .before .match .keys2)
+    (c .step .ensures)
     ∙ all (c .before .before .before .before .before .before .before .before .before)
 
 step-requires-2 : tie.Need-step-requires-2 Inv-loop μ-loop
@@ -84,13 +110,8 @@ loop-again c = (
   omega arith,
   ⊎-elim
       (λ w.
-      scan-nothing (joined (c .before .before .before .before .before .before .before .loop .head) (c .before .before .before .before .before .before .before .loop .bits)) _ (c .before .before .before .before .framing .ensures) (bitsOf (c .before .before .before .before .before .before .before .before .before .before .before .args .bytes .now)) (c .before .before .before .before .before .before .before .loop .at) (c .before .before .before .before .before .before .before .before .before .before .before .args .to) _ _
-      (c .before .before .before .before .before .before .loop-test .taken) (long (c .before .before .before .before .before .before .before .before .before .before .before)) (c .before .before .before .before .before .get-bit .ensures) (c .before .before .before .closes .ensures)
-      _ _ (w .0 .taken) (w .1 .ensures) (w .2 .ensures) _ (w .4 .given .1) (c .step2 .ensures))
-      (λ w.
-      scan-quiet (joined (c .before .before .before .before .before .before .before .loop .head) (c .before .before .before .before .before .before .before .loop .bits)) _ (c .before .before .before .before .framing .ensures) (bitsOf (c .before .before .before .before .before .before .before .before .before .before .before .args .bytes .now)) (c .before .before .before .before .before .before .before .loop .at) (c .before .before .before .before .before .before .before .before .before .before .before .args .to) _ _
-      (c .before .before .before .before .before .before .loop-test .taken) (long (c .before .before .before .before .before .before .before .before .before .before .before)) (c .before .before .before .before .before .get-bit .ensures) (c .before .before .before .closes .ensures)
-      _ (w .left) (c .step2 .ensures))
+      scan-nothing (turn (c .before .before .before)) _ _ (w .0 .taken) (w .1 .ensures) (w .2 .ensures) _ (w .4 .given .1) (c .step2 .ensures))
+      (λ w. scan-quiet (turn (c .before .before .before)) _ (w .left) (c .step2 .ensures))
       (c .before .before .if1 .came)
       ∙ c .before .before .before .before .before .before .before .loop .inv .1,
 )
@@ -101,8 +122,11 @@ framing-requires-3 c κs = search needs
 returns-2 : tie.Need-returns-2 Inv-loop μ-loop
 unfolding ended
 returns-2 c =
-    scan-end (joined (c .before .before .loop .head) (c .before .before .loop .bits)) _ (bitsOf (c .before .before .before .before .before .before .args .bytes .now)) (c .before .before .loop .at) (c .before .before .before .before .before .before .args .to)
-    (c .before .before .loop .inv .0) (c .before .loop-test .left) (c .framing3 .ensures)
+    let l = c .before .before .loop in
+    scan-end (joined (l .head) (l .bits)) _ _ (l .at) (c .before .before .before .before .before .before .args .to)
+    (l .inv .0)
+    (c .before .loop-test .left)
+    (c .framing3 .ensures)
     ∙ all (c .before .before)
 
 pub scan-spec : {M : Type 1} → statement M
