@@ -1,0 +1,252 @@
+-- The laws of circuit lists: a search over the circuits that are left, the circuits of bytes taken three at a time, and what a listing
+-- returns.
+use Prim.Native.Nat.{ℕ, zero, suc, _+_, _*_, _≤_, _<_, min}
+use native.Mathlib.Numerals.{add-one}
+use native.Mathlib.Omega.{arith}
+use mathlib.Core.Bool.{Bool, true, false, cond, not, _||_}
+use mathlib.Core.List.{List, [], _∷_, _++_}
+use mathlib.Core.Path.{_≡_, refl, _∙_}
+use borrow.Author.Tests.{ltb-false, ne-eqb, eqb-true, eqb-false}
+use lib.Dec.{ltb, eqb}
+use lib.ListN.{length, take, drop, getD, set, replicate, length-take, length-drop, drop-of-length-le}
+use lib.Seq.{sets, drop-cons, take-append-seam, getD-take, take-take}
+use Rattle.packet.specs.declared.Circuit.{Circuit}
+use Rattle.packet.specs.declared.Circuits.{Circuits}
+use Rattle.packet.specs.Circuits.{circuitsOf, some-circuit, wrongLength, addressFF, wrongExtension, alike, twoAlike, circuitsRefusal, listRefusal, listed, noCircuit, recordOf, listing}
+
+-- neither of two tests passed
+or-left : (a b : Bool) → (a || b) ≡ false → a ≡ false
+or-left false b e = refl
+or-left true b e = e
+
+or-right : (a b : Bool) → (a || b) ≡ false → b ≡ false
+or-right false b e = e
+or-right true b e = absurd (let z : _≡_ {A = ℕ} 0 1 = cc in omega arith)
+
+-- what is left of the first n of a list from place i on: it begins with the element at i, and is empty from its end on
+module _ {ℓ} {A : Type ℓ} where
+  drop-take-cons : (i n : ℕ) (l : List A) (d : A) → i < n → i < length l
+      → drop i (take n l) ≡ getD l i d ∷ drop (i + 1) (take n l)
+  drop-take-cons i n l d below inside =
+      let short : i < length (take n l) = rw length-take (omega arith) in
+      rw (drop-cons (take n l) i d short, getD-take n l i d below, add-one)
+
+  drop-take-nil : (i n : ℕ) (l : List A) → min n (length l) ≤ i → drop i (take n l) ≡ []
+  drop-take-nil i n l h =
+      let short : length (take n l) ≤ i = rw length-take h in
+      drop-of-length-le (take n l) short
+
+-- a search over what is left: it ends at a circuit that passes, goes on behind one that does not, and finds none at the end
+module _ (test : Circuit → Bool) (i n : ℕ) (l : List Circuit) where
+  pub some-circuit-found : i < n → i < length l → test (getD l i noCircuit) ≡ true → some-circuit test (drop i (take n l)) ≡ true
+  unfolding some-circuit
+  some-circuit-found below inside e = rw (drop-take-cons i n l noCircuit below inside, e)
+
+  pub some-circuit-next : i < n → i < length l → test (getD l i noCircuit) ≡ false
+      → some-circuit test (drop i (take n l)) ≡ some-circuit test (drop (i + 1) (take n l))
+  unfolding some-circuit
+  some-circuit-next below inside e = rw (drop-take-cons i n l noCircuit below inside, e)
+
+  pub some-circuit-end : min n (length l) ≤ i → some-circuit test (drop i (take n l)) ≡ false
+  unfolding some-circuit
+  some-circuit-end h = rw (drop-take-nil i n l h)
+
+-- two alike among what is left: sought behind each circuit in turn
+module _ (i n : ℕ) (l : List Circuit) where
+  pub twoAlike-found : i < n → i < length l → some-circuit (alike (getD l i noCircuit)) (drop (i + 1) (take n l)) ≡ true
+      → twoAlike (drop i (take n l)) ≡ true
+  unfolding twoAlike
+  twoAlike-found below inside e = rw (drop-take-cons i n l noCircuit below inside, e)
+
+  pub twoAlike-next : i < n → i < length l → some-circuit (alike (getD l i noCircuit)) (drop (i + 1) (take n l)) ≡ false
+      → twoAlike (drop i (take n l)) ≡ twoAlike (drop (i + 1) (take n l))
+  unfolding twoAlike
+  twoAlike-next below inside e = rw (drop-take-cons i n l noCircuit below inside, e)
+
+  pub twoAlike-end : min n (length l) ≤ i → twoAlike (drop i (take n l)) ≡ false
+  unfolding twoAlike
+  twoAlike-end h = rw (drop-take-nil i n l h)
+
+-- the circuits of what is left of bytes: three more bytes are one more circuit, and fewer are none
+drop-next : (l : List ℕ) (j k : ℕ) → j < length l → j + 1 ≡ k → drop j l ≡ getD l j 0 ∷ drop k l
+drop-next l j k h e = rw (← e, add-one) (drop-cons l j 0 h)
+
+pub circuitsOf-cons : (bs : List ℕ) (i : ℕ) → 3 * i + 2 < length bs
+    → circuitsOf (drop (3 * i) bs)
+    ≡ record { address = getD bs (3 * i) 0; extended = getD bs (3 * i + 1) 0; extension = getD bs (3 * i + 2) 0 } ∷ circuitsOf (drop (3 * (i + 1)) bs)
+unfolding circuitsOf
+circuitsOf-cons bs i h =
+    rw (
+      drop-next bs (3 * i) (3 * i + 1) (omega arith) (omega arith),
+      drop-next bs (3 * i + 1) (3 * i + 2) (omega arith) (omega arith),
+      drop-next bs (3 * i + 2) (3 * (i + 1)) (omega arith) (omega arith),
+    )
+
+circuitsOf-short : (l : List ℕ) → length l ≤ 2 → circuitsOf l ≡ []
+unfolding circuitsOf
+circuitsOf-short [] h = refl
+circuitsOf-short (a ∷ []) h = refl
+circuitsOf-short (a ∷ e ∷ []) h = refl
+circuitsOf-short (a ∷ e ∷ x ∷ l) h = absurd (omega arith)
+
+pub circuitsOf-nil : (bs : List ℕ) (i : ℕ) → length bs ≤ 3 * i + 2 → circuitsOf (drop (3 * i) bs) ≡ []
+circuitsOf-nil bs i h =
+    let short : length (drop (3 * i) bs) ≤ 2 = rw length-drop (omega arith) in
+    circuitsOf-short (drop (3 * i) bs) short
+
+-- the number of circuits of bytes
+pub length-circuitsOf : (bs : List ℕ) → (3 * length (circuitsOf bs) ≤ length bs) × (length bs ≤ 3 * length (circuitsOf bs) + 2)
+unfolding circuitsOf
+length-circuitsOf [] = omega arith
+length-circuitsOf (a ∷ []) = omega arith
+length-circuitsOf (a ∷ e ∷ []) = omega arith
+length-circuitsOf (a ∷ e ∷ x ∷ bs) = omega (arith, length-circuitsOf bs)
+
+-- circuits stored in turn over four empty places are the record of them
+pub recordOf-list : (cs : List Circuit) → length cs ≤ 4 → sets (replicate 4 noCircuit) 0 cs ≡ recordOf cs .list
+unfolding recordOf
+recordOf-list [] h = refl
+recordOf-list (a ∷ []) h = refl
+recordOf-list (a ∷ b ∷ []) h = refl
+recordOf-list (a ∷ b ∷ c ∷ []) h = refl
+recordOf-list (a ∷ b ∷ c ∷ d ∷ []) h = refl
+recordOf-list (a ∷ b ∷ c ∷ d ∷ e ∷ cs) h = absurd (omega arith)
+
+-- the first i circuits of bytes are stored in a list's first i places: storing those that are left there gives all of them
+abbrev pub Stored : List ℕ → List Circuit → ℕ → Type 0
+Stored bs list i =
+    (length (circuitsOf bs) ≡ i + length (circuitsOf (drop (3 * i) bs)))
+    × (sets list i (circuitsOf (drop (3 * i) bs)) ≡ sets (replicate 4 noCircuit) 0 (circuitsOf bs))
+
+-- one more is stored, and at the end the list is the record's
+sets-cons : (l : List Circuit) (i : ℕ) (a : Circuit) (rest : List Circuit) → sets (set l i a) (i + 1) rest ≡ sets l i (a ∷ rest)
+sets-cons l i a rest = rw (add-one i)
+
+pub Stored-next : (bs : List ℕ) (list : List Circuit) (i : ℕ) → 3 * i + 2 < length bs → Stored bs list i
+    → Stored bs
+    (set list i (record { address = getD bs (3 * i) 0; extended = getD bs (3 * i + 1) 0; extension = getD bs (3 * i + 2) 0 }))
+    (i + 1)
+Stored-next bs list i h stored =
+    let step = circuitsOf-cons bs i h in
+    let count : length (circuitsOf bs) ≡ i + suc (length (circuitsOf (drop (3 * (i + 1)) bs))) = rw step at (stored .0) in
+    (omega arith, sets-cons list i _ (circuitsOf (drop (3 * (i + 1)) bs)) ∙ rw step at (stored .1))
+
+circuits-eq : (m n : ℕ) (a b : List Circuit) → m ≡ n → a ≡ b
+    → _≡_ {A = Circuits} (record { count = m; list = a }) (record { count = n; list = b })
+circuits-eq m n a b p q = cc
+
+pub Stored-end : (bs : List ℕ) (list : List Circuit) (i : ℕ) → length bs ≤ 12 → length bs ≤ 3 * i + 2 → Stored bs list i
+    → record { count = i; list = list } ≡ recordOf (circuitsOf bs)
+unfolding recordOf
+Stored-end bs list i short end stored =
+    let none = circuitsOf-nil bs i end in
+    let count : length (circuitsOf bs) ≡ i + 0 = rw none at (stored .0) in
+    let all : i ≡ length (circuitsOf bs) = omega arith in
+    let few : length (circuitsOf bs) ≤ 4 = omega (arith, length-circuitsOf bs) in
+    let same : list ≡ sets (replicate 4 noCircuit) 0 (circuitsOf bs) = rw none at (stored .1) in
+    circuits-eq i (length (circuitsOf bs)) list (recordOf (circuitsOf bs) .list) all (same ∙ recordOf-list (circuitsOf bs) few)
+
+-- the refusals 2, 3 and 4 of circuits that are accepted
+pub circuitsRefusal-zero : (cs : List Circuit) → circuitsRefusal cs ≡ 0
+    → (some-circuit addressFF cs ≡ false) × (some-circuit wrongExtension cs ≡ false) × (twoAlike cs ≡ false)
+unfolding circuitsRefusal
+circuitsRefusal-zero cs e = go (some-circuit addressFF cs) (some-circuit wrongExtension cs) (twoAlike cs) e
+  where
+    go : (a b c : Bool) → _≡_ {A = ℕ} (cond a 2 (cond b 3 (cond c 4 0))) 0 → (a ≡ false) × (b ≡ false) × (c ≡ false)
+    go true b c h = absurd (omega arith)
+    go false true c h = absurd (omega arith)
+    go false false true h = absurd (omega arith)
+    go false false false h = (refl, refl, refl)
+
+-- a circuit of circuits that pass no test does not pass it
+pub some-circuit-each : (test : Circuit → Bool) (cs : List Circuit) (i : ℕ) → i < length cs → some-circuit test cs ≡ false
+    → test (getD cs i noCircuit) ≡ false
+unfolding some-circuit
+some-circuit-each test [] i h e = absurd (omega arith)
+some-circuit-each test (c ∷ cs) zero h e = or-left (test c) (some-circuit test cs) e
+some-circuit-each test (c ∷ cs) (suc i) h e = some-circuit-each test cs i (omega arith) (or-right (test c) (some-circuit test cs) e)
+
+-- a listed circuit of an accepted record has an extension or none
+wrongExtension-lt : (c : Circuit) → wrongExtension c ≡ false → c .extended < 2
+unfolding wrongExtension
+wrongExtension-lt c e =
+    let le : c .extended ≤ 1 = ltb-false 1 (c .extended) (or-left (ltb 1 (c .extended)) _ e) in
+    omega arith
+
+pub circuitsRefusal-extended : (cs : Circuits) (i : ℕ) → i < cs .count → i < length (cs .list) → circuitsRefusal (listed cs) ≡ 0
+    → getD (cs .list) i noCircuit .extended < 2
+unfolding listed
+circuitsRefusal-extended cs i below inside e =
+    let short : i < length (take (cs .count) (cs .list)) = rw length-take (omega arith) in
+    let right = some-circuit-each wrongExtension (take (cs .count) (cs .list)) i short (circuitsRefusal-zero (take (cs .count) (cs .list)) e .1) in
+    wrongExtension-lt (getD (cs .list) i noCircuit) (rw (getD-take (cs .count) (cs .list) i noCircuit below) at right)
+
+-- an accepted list has one to four circuits
+pub wrongLength-false : (n : ℕ) → wrongLength n ≡ false → (3 ≤ n) × (n ≤ 12)
+unfolding wrongLength
+wrongLength-false n = go (eqb n 3) (eqb n 6) (eqb n 9) (eqb n 12) refl refl refl refl
+  where
+    go : (a b c d : Bool) → eqb n 3 ≡ a → eqb n 6 ≡ b → eqb n 9 ≡ c → eqb n 12 ≡ d → not (a || b || c || d) ≡ false → (3 ≤ n) × (n ≤ 12)
+    go true b c d p q r s e = let is : n ≡ 3 = eqb-true n 3 p in omega arith
+    go false true c d p q r s e = let is : n ≡ 6 = eqb-true n 6 q in omega arith
+    go false false true d p q r s e = let is : n ≡ 9 = eqb-true n 9 r in omega arith
+    go false false false true p q r s e = let is : n ≡ 12 = eqb-true n 12 s in omega arith
+    go false false false false p q r s e = absurd (let z : _≡_ {A = ℕ} 0 1 = cc in omega arith)
+
+listRefusal-zero : (bs : List ℕ) → listRefusal bs ≡ 0 → (wrongLength (length bs) ≡ false) × (circuitsRefusal (circuitsOf bs) ≡ 0)
+unfolding listRefusal
+listRefusal-zero bs e = go (wrongLength (length bs)) e
+  where
+    go : (t : Bool) → _≡_ {A = ℕ} (cond t 1 (circuitsRefusal (circuitsOf bs))) 0 → (t ≡ false) × (circuitsRefusal (circuitsOf bs) ≡ 0)
+    go true h = absurd (omega arith)
+    go false h = (refl, h)
+
+pub listRefusal-length : (bs : List ℕ) → listRefusal bs ≡ 0 → (1 ≤ length (circuitsOf bs)) × (length (circuitsOf bs) ≤ 4)
+listRefusal-length bs e =
+    omega (arith, length-circuitsOf bs, wrongLength-false (length bs) (listRefusal-zero bs e .0))
+
+-- the circuits of the record of at most four circuits are these
+listed-recordOf : (cs : List Circuit) → length cs ≤ 4 → listed (recordOf cs) ≡ cs
+unfolding listed recordOf
+listed-recordOf cs h = rw (take-take (length cs) 4 (cs ++ replicate 4 noCircuit) h) (take-append-seam cs (replicate 4 noCircuit))
+
+-- the refusal of a list by its length, or by its circuits' record
+pub listRefusal-length-wrong : (bs : List ℕ) → wrongLength (length bs) ≡ true → listRefusal bs ≡ 1
+unfolding listRefusal
+listRefusal-length-wrong bs e = rw e
+
+pub listRefusal-listed : (bs : List ℕ) → wrongLength (length bs) ≡ false → listRefusal bs ≡ circuitsRefusal (listed (recordOf (circuitsOf bs)))
+unfolding listRefusal
+listRefusal-listed bs e =
+    let few : length (circuitsOf bs) ≤ 4 = omega (arith, length-circuitsOf bs, wrongLength-false (length bs) e) in
+    rw (e, listed-recordOf (circuitsOf bs) few)
+
+-- a listing has the list's circuits if it accepts it; it has at most four, and none that listing refuses
+pub listing-accepted : (bs : List ℕ) → listRefusal bs ≡ 0 → listing bs ≡ recordOf (circuitsOf bs)
+unfolding listing
+listing-accepted bs e = rw e
+
+pub listing-refused : (bs : List ℕ) → (listRefusal bs ≡ 0 → ⊥) → listing bs ≡ recordOf []
+unfolding listing
+listing-refused bs e = rw (ne-eqb (listRefusal bs) 0 e)
+
+pub listed-listing : (bs : List ℕ) → listRefusal bs ≡ 0 → listed (listing bs) ≡ circuitsOf bs
+listed-listing bs e = rw (listing-accepted bs e) (listed-recordOf (circuitsOf bs) (listRefusal-length bs e .1))
+
+listing-either : (P : Circuits → Type 0) (bs : List ℕ) → (listRefusal bs ≡ 0 → P (recordOf (circuitsOf bs))) → P (recordOf []) → P (listing bs)
+listing-either P bs accepted refused = go (eqb (listRefusal bs) 0) refl
+  where
+    go : (t : Bool) → eqb (listRefusal bs) 0 ≡ t → P (listing bs)
+    go true e =
+        let is : listRefusal bs ≡ 0 = eqb-true (listRefusal bs) 0 e in
+        rw (listing-accepted bs is) (accepted is)
+    go false e = rw (listing-refused bs (eqb-false (listRefusal bs) 0 e)) refused
+
+pub listing-count : (bs : List ℕ) → listing bs .count ≤ 4
+unfolding recordOf
+listing-count bs = listing-either (λ cs. cs .count ≤ 4) bs (λ e. listRefusal-length bs e .1) (omega arith)
+
+pub listing-refusal : (bs : List ℕ) → circuitsRefusal (listed (listing bs)) ≡ 0
+unfolding listed recordOf circuitsRefusal some-circuit twoAlike
+listing-refusal bs = listing-either (λ cs. circuitsRefusal (listed cs) ≡ 0) bs
+    (λ e. rw (listed-recordOf (circuitsOf bs) (listRefusal-length bs e .1)) (listRefusal-zero bs e .1)) refl

@@ -1,0 +1,4 @@
+-- The laws of `packet`: lists of circuits and their listing, messages cut into segments, packets as bytes.
+pub mod CircuitLists
+pub mod Segments
+pub mod PacketBytes
