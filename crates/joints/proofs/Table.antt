@@ -6,6 +6,8 @@ use Rattle.fcs.specs.Fcs.{poly, divided, fcsBit, fcsRun, preset, complement, fc
 use Rattle.hdlc.specs.Stuffing.{stuffFrom, stuff}
 use Rattle.hdlc.specs.Frames.{flag}
 use Rattle.hdlc.specs.Bodies.{startsWith, flagsFrom, flags, bodiesAfter, betweenFlags, bodies}
+use Rattle.packet.specs.Messages.{header, packets, linkOf}
+use Rattle.packet.specs.Packets.{control}
 use Rattle.framing.specs.Machine.{empty, fresh, oneRead, zeroRead, step, run, closes}
 use Rattle.framing.specs.Closings.{closings}
 use Rattle.joints.specs.Joints.{Joints}
@@ -15,6 +17,7 @@ unfolding odd lowBits byteBits bitsOf stuffFrom stuff
     flag startsWith flagsFrom flags bodiesAfter betweenFlags bodies
     empty fresh oneRead zeroRead step run closes closings
     xor poly divided fcsBit fcsRun preset complement fcsOf lowFirst
+    header packets linkOf control
 joints =
     record {
       stuff-FF = refl;
@@ -30,4 +33,9 @@ joints =
       fresh-read = refl;
       fcs-digits = refl;
       fcs-digits-sent = refl;
+      packets-0 = refl;
+      packets-15 = refl;
+      packets-16 = refl;
+      packets-4094 = refl;
+      control-first = refl;
     }

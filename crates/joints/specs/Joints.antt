@@ -10,6 +10,8 @@ use Rattle.bits.specs.Bits.{byteBits, bitsOf}
 use Rattle.fcs.specs.Fcs.{fcsOf, lowFirst}
 use Rattle.hdlc.specs.Stuffing.{stuff}
 use Rattle.hdlc.specs.Bodies.{flags, bodies}
+use Rattle.packet.specs.Messages.{packets, linkOf}
+use Rattle.packet.specs.Packets.{control}
 use Rattle.framing.specs.Machine.{empty, fresh, run}
 use Rattle.framing.specs.Closings.{closings}
 
@@ -50,3 +52,10 @@ pub record Joints : Type 0 where
   pub fcs-digits : fcsOf digits ≡ 0x906e
   -- "sent 6E, 90"
   pub fcs-digits-sent : lowFirst (fcsOf digits) ≡ 0x6e ∷ 0x90 ∷ []
+  -- "Lengths 0, 15, 16, 4,094: 1, 1, 2, 256 packets"
+  pub packets-0 : packets 0 ≡ 1
+  pub packets-15 : packets 15 ≡ 1
+  pub packets-16 : packets 16 ≡ 2
+  pub packets-4094 : packets 4094 ≡ 256
+  -- "First, no extension, index 5, priority 2: 96 hex": the first of two packets
+  pub control-first : control (linkOf 0 2) 0 5 2 ≡ 0x96
