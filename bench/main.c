@@ -81,18 +81,44 @@ static void run(const char *name, const uint8_t *packets, double torn)
     printf("%-12s %zu bits, checksum of what passed %llu\n", name, bits, (unsigned long long)found);
 }
 
+/* Blocks of 27,000 bits from four circuits with a message of 4,094 bytes each, until nothing waits. */
+static void run_blocks(const char *name, const uint8_t *message)
+{
+    static uint8_t ours[3375], theirs[3375], store[16384];
+    double best[2] = {1e18, 1e18};
+    uint64_t bits = 0;
+    for (int round = 0; round < ROUNDS; round++) {
+        double t0 = now();
+        uint64_t a = bench_blocks(ours, sizeof ours, store, sizeof store, message, 4094, 27000);
+        double t1 = now();
+        uint64_t b = plain_blocks(theirs, sizeof theirs, message, 4094, 27000);
+        double t2 = now();
+        if (a != b || memcmp(ours, theirs, sizeof ours))
+            differ("blocks");
+        if (t1 - t0 < best[0])
+            best[0] = t1 - t0;
+        if (t2 - t1 < best[1])
+            best[1] = t2 - t1;
+        bits = a;
+    }
+    report(name, "blocks", best[0], best[1], bits);
+}
+
 int main(void)
 {
     static uint8_t packets[PACKETS * SIZE];
     for (size_t i = 0; i < sizeof packets; i++)
         packets[i] = (uint8_t)(noise() >> 11);
     run("random", packets, 0);
+    run_blocks("random", packets);
     run("torn", packets, 0.002);
     for (size_t i = 0; i < sizeof packets; i++)
         packets[i] = i % 3 == 0 ? (uint8_t)i : 0xff;
     run("ones", packets, 0);
+    run_blocks("ones", packets);
     for (size_t i = 0; i < sizeof packets; i++)
         packets[i] = i % 5 == 0 ? (uint8_t)(noise() >> 11) : (uint8_t)(noise() >> 28);
     run("telemetry", packets, 0);
+    run_blocks("telemetry", packets);
     return 0;
 }

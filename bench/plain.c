@@ -119,3 +119,125 @@ uint64_t plain_scan(const uint8_t *bytes, size_t len, size_t from, size_t to)
     }
     return sum;
 }
+
+/* ---- blocks: four circuits, one message each, made into blocks of n bits until nothing waits */
+
+struct circuit {
+    uint8_t address, index, priority, repetition, copy;
+    size_t length, place;
+    const uint8_t *message;
+};
+
+static size_t packets(size_t length)
+{
+    return ((length <= 15 ? 1 : 2) + length + 15) / 16;
+}
+
+static size_t packet_of(const struct circuit *c, uint8_t *out)
+{
+    size_t last = packets(c->length) - 1, n = 2, from = 0, len = 16;
+    unsigned link = c->place == 0 ? 2 : c->place == last ? 1 : 0;
+    out[0] = c->address;
+    out[1] = (uint8_t)(link << 6 | c->index << 2 | c->priority);
+    if (c->place == 0) {
+        if (c->length > 15)
+            out[n++] = (uint8_t)(16 + c->length / 256);
+        out[n++] = c->length & 255;
+        len = 16 - (n - 2);
+    } else {
+        from = 16 * c->place - (c->length <= 15 ? 1 : 2);
+    }
+    if (len > c->length - from)
+        len = c->length - from;
+    for (size_t i = 0; i < len; i++)
+        out[n++] = c->message[from + i];
+    return n;
+}
+
+static size_t stuffed_length(const uint8_t *bytes, size_t n, unsigned *run)
+{
+    size_t bits = 0;
+    for (size_t i = 0; i < n; i++)
+        for (int k = 0; k < 8; k++) {
+            unsigned bit = (bytes[i] >> k) & 1;
+            bits++;
+            *run = bit ? *run + 1 : 0;
+            if (*run == 5) {
+                bits++;
+                *run = 0;
+            }
+        }
+    return bits;
+}
+
+static int pick(const struct circuit *c, int last)
+{
+    for (int priority = 3; priority >= 0; priority--)
+        for (int step = 1; step <= 4; step++) {
+            int i = (last + step) % 4;
+            if (c[i].place < packets(c[i].length) && c[i].priority == priority)
+                return i;
+        }
+    return -1;
+}
+
+static size_t put_frame(uint8_t *buf, size_t at, const uint8_t *packet, size_t size, uint16_t fcs)
+{
+    unsigned run = 0;
+    for (size_t i = 0; i < size; i++)
+        at = put_byte(buf, at, &run, packet[i]);
+    at = put_byte(buf, at, &run, fcs & 255);
+    at = put_byte(buf, at, &run, fcs >> 8);
+    return put_flag(buf, at);
+}
+
+uint64_t plain_blocks(uint8_t *buf, size_t len, const uint8_t *message, size_t message_len, size_t n)
+{
+    struct circuit c[4];
+    uint64_t sum = 0;
+    int last = 3;
+    (void)len;
+    for (int i = 0; i < 4; i++)
+        c[i] = (struct circuit){(uint8_t)(i + 1), 0, (uint8_t)(i & 1), (uint8_t)(i >> 1), 0, message_len, 0, message};
+    for (int more = 1; more;) {
+        size_t at = put_flag(buf, 0);
+        more = 0;
+        for (;;) {
+            uint8_t packet[21];
+            uint16_t fcs = 0xffff;
+            size_t size;
+            int i = pick(c, last);
+            if (i < 0)
+                break;
+            size = packet_of(&c[i], packet);
+            for (size_t b = 0; b < size; b++)
+                for (int k = 0; k < 8; k++)
+                    fcs = fcs_bit(fcs, (packet[b] >> k) & 1);
+            fcs = (uint16_t)~fcs;
+            if (at + 209 > n) {
+                uint8_t ends[2] = {(uint8_t)(fcs & 255), (uint8_t)(fcs >> 8)};
+                unsigned run = 0;
+                size_t bits = stuffed_length(packet, size, &run);
+                bits += stuffed_length(ends, 2, &run);
+                if (at + bits + 8 > n)
+                    break;
+            }
+            at = put_frame(buf, at, packet, size, fcs);
+            if (c[i].copy < c[i].repetition) {
+                c[i].copy++;
+            } else {
+                c[i].copy = 0;
+                c[i].place++;
+                c[i].index = (c[i].index + 1) % 8;
+            }
+            last = i;
+            more = 1;
+        }
+        sum += at;
+        for (; at < n; at++)
+            put_bit(buf, at, 1);
+        for (; at % 8; at++)
+            put_bit(buf, at, 0);
+    }
+    return sum;
+}

@@ -1,6 +1,9 @@
 // The proved functions that the benchmark times, for C to call (bench/).
 use framing::Check;
 use framing::Framing;
+use sender::Made;
+use sender::Sender;
+use sender::blocks::make_block;
 ghost use Prim.Native.Nat.{_*_, _≤_};
 ghost use lib.ListN.{length};
 
@@ -83,6 +86,47 @@ pub extern "C" fn bench_scan(bytes: &[u8], from: usize, to: usize) -> u64
         sum += weight(check, packet);
         framing = found.framing;
         at = found.at;
+    }
+    sum
+}
+
+// The most blocks that are made here.
+const BLOCKS: u64 = 10_000;
+
+// Four circuits, each with the message offered, two with priority 1, two with a copy after the original.
+fn loaded(store: &mut [u8], message: &[u8]) -> Sender {
+    let listed = Sender::list(b"\x01\x00\x00\x02\x00\x00\x03\x00\x00\x04\x00\x00");
+    let fresh = listed.sender;
+    let one = fresh.offer(store, 0, 0, 0, message);
+    let two = one.sender.offer(store, 1, 1, 0, message);
+    let three = two.sender.offer(store, 2, 0, 1, message);
+    let four = three.sender.offer(store, 3, 1, 1, message);
+    four.sender
+}
+
+// Blocks of n bits, all of them used, until one places no frame: the bits used in all of them.
+#[no_mangle]
+pub extern "C" fn bench_blocks(buffer: &mut [u8], store: &mut [u8], message: &[u8], n: usize) -> u64
+    ensures { λ r. ⌜ r ≤ 270000000 ⌝ }
+{
+    let mut sender = loaded(store, message);
+    let mut sum: u64 = 0;
+    let mut i: u64 = 0;
+    while i < BLOCKS {
+        let making = make_block(sender, store, buffer, n, n, false, 0, 0, message);
+        sender = making.sender;
+        let made = making.made;
+        let Made::Block { placed, used } = made else {
+            return sum;
+        };
+        if 27000 < used {
+            return sum;
+        }
+        sum += used as u64;
+        if placed == 0 {
+            return sum;
+        }
+        i += 1;
     }
     sum
 }

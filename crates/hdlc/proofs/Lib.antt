@@ -4,4 +4,6 @@ pub mod Stuffing
 pub mod Writing
 pub mod OneBit
 pub mod Ending
+pub mod PenAfter
+pub mod InTurn
 pub mod FrameLength

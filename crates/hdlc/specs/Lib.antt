@@ -3,3 +3,4 @@ pub mod Stuffing
 pub mod Frames
 pub mod Bodies
 pub mod Writing
+pub mod Counting

@@ -2,3 +2,4 @@
 pub mod CircuitLists
 pub mod Segments
 pub mod PacketBytes
+pub mod AnswerNumbers

@@ -38,15 +38,7 @@ pub header-Bytes : (n : ℕ) → n ≤ 4094 → Bytes (header n)
 unfolding Bytes
 header-Bytes n h = header-either Bytes n (λ s. (omega arith, tt)) (λ l. (omega arith, (omega arith, tt)))
 
--- a header filled up to two bytes holds it
-pub take-header : (n : ℕ) → take (length (header n)) (take 2 (header n ++ 0 ∷ [])) ≡ header n
-take-header n = header-either (λ l. take (length l) (take 2 (l ++ 0 ∷ [])) ≡ l) n (λ h. refl) (λ h. refl)
-
 -- the number of packets
-pub packets-positive : (n : ℕ) → 1 ≤ packets n
-unfolding packets
-packets-positive n = omega (arith, length-header n)
-
 pub packets-most : (n : ℕ) → n ≤ 4094 → packets n ≤ 256
 unfolding packets
 packets-most n h = omega (arith, length-header n)

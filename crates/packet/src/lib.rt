@@ -1,8 +1,8 @@
 // Circuits, messages and packets as bytes.
 ghost use mathlib.Core.Path.{_≡_};
-ghost use mathlib.Core.List.{[], _∷_, _++_};
+ghost use mathlib.Core.List.{[]};
 ghost use Prim.Native.Nat.{_*_, _≤_, _<_, min};
-ghost use lib.ListN.{length, take, drop};
+ghost use lib.ListN.{length, getD, drop};
 ghost use Rattle.packet.specs.Circuits.{circuitsOf, some-circuit, wrongLength, addressFF, wrongExtension, alike, twoAlike, circuitsRefusal, listRefusal, listed, noCircuit, recordOf, listing};
 ghost use Rattle.packet.specs.Messages.{header, partOf, packets, linkOf};
 ghost use Rattle.packet.specs.Packets.{control};
@@ -20,12 +20,6 @@ pub struct Circuits {
     pub list: [Circuit; 4],
 }
 
-// The answer of a call that has nothing else to tell: accepted, or refused with document 01's number.
-pub enum Answer {
-    Accepted,
-    Refused(u8),
-}
-
 // What listing answers: the refusal's number, 0 if the list is accepted, and the record.
 pub struct Listing {
     pub refusal: u8,
@@ -36,12 +30,6 @@ pub struct Listing {
 pub struct Part {
     pub from: usize,
     pub len: usize,
-}
-
-// A header: its one or two bytes, which begin `bytes`.
-pub struct Header {
-    pub len: usize,
-    pub bytes: [u8; 2],
 }
 
 impl Circuit {
@@ -252,10 +240,32 @@ fn wrong_length(n: usize) -> bool
 }
 
 // The number of bytes of the header of a message of n bytes.
-fn header_length(n: usize) -> usize
+pub fn header_length(n: usize) -> usize
     ensures { λ r. ⌜ r ≡ length (header n) ⌝ }
 {
     if n <= 15 { 1 } else { 2 }
+}
+
+// The first byte of that header.
+pub fn header_first(n: usize) -> u8
+    requires { ⌜ n ≤ 4094 ⌝ }
+    ensures { λ r. ⌜ r ≡ getD (header n) 0 0 ⌝ }
+{
+    if n <= 15 {
+        return n as u8;
+    }
+    (16 + n / 256) as u8
+}
+
+// The second byte of that header, 0 if it has only one.
+pub fn header_second(n: usize) -> u8
+    requires { ⌜ n ≤ 4094 ⌝ }
+    ensures { λ r. ⌜ r ≡ getD (header n) 1 0 ⌝ }
+{
+    if n <= 15 {
+        return 0;
+    }
+    (n % 256) as u8
 }
 
 // The lesser of two numbers.
@@ -263,25 +273,6 @@ fn least(a: usize, b: usize) -> usize
     ensures { λ r. ⌜ r ≡ min a b ⌝ }
 {
     if a <= b { a } else { b }
-}
-
-impl Header {
-    // The header of a message of n bytes.
-    pub fn of(n: usize) -> Header
-        requires { ⌜ n ≤ 4094 ⌝ }
-        ensures { λ r. ⌜ (r .len ≡ length (header n)) × (r .bytes ≡ take 2 (header n ++ 0 ∷ [])) ⌝ }
-    {
-        if n <= 15 {
-            return Header {
-                len: 1,
-                bytes: [n as u8, 0],
-            };
-        }
-        Header {
-            len: 2,
-            bytes: [(16 + n / 256) as u8, (n % 256) as u8],
-        }
-    }
 }
 
 impl Part {
@@ -343,4 +334,10 @@ pub fn control(link: u8, extended: u8, index: u8, priority: u8) -> u8
     ensures { λ r. ⌜ r ≡ control link extended index priority ⌝ }
 {
     link_bits(link) + 32 * extended + 4 * index + priority
+}
+
+// The answer of a call that has nothing else to tell: accepted, or refused with document 01's number.
+pub enum Answer {
+    Accepted,
+    Refused(u8),
 }

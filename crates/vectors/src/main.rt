@@ -3,7 +3,9 @@
 // - CRC-16/X-25, also called CRC-16/IBM-SDLC: the check value of the published catalogues of CRC algorithms;
 // - ISO/IEC 14443-3, annex B: the three examples of CRC_B, which is the same FCS;
 // - ITU-T X.25, appendix I: a SABM command and a UA response as whole frames, bit by bit, the inserted 0 of the first included.
-// Then frames with a tear in them are read: what they give follows from document 01.
+// Then frames with a tear in them are read, and whole blocks are made for chosen calls: what they give follows from document 01.
+mod blocks;
+
 use framing::Check;
 use framing::Framing;
 ghost use mathlib.Core.Path.{_≡_};
@@ -140,4 +142,6 @@ fn main() {
     torn_frame_of(b"\x03\x3f", 8);
     torn_frame_of(b"\x03\x3f", 21);
     torn_frame_of(b"\x03\x3f", 44);
+    print(b"Blocks\n");
+    blocks::run();
 }

@@ -1,0 +1,135 @@
+-- One turn of filling a block: a frame written and its circuit served, and what is left to fill from there is what was left before, without it.
+use mathlib.Core.Path.{_≡_, refl, sym, ap, _∙_}
+use Prim.Native.Nat.{ℕ, suc, _+_, _*_, _^_, _≤_, _<_}
+use native.Mathlib.Nat.{add-zero, zero-add}
+use native.Mathlib.Omega.{arith}
+use mathlib.Core.Bool.{Bool, true, false}
+use mathlib.Core.List.{List}
+use mathlib.Core.Option.{none, some}
+use lib.ListN.{length, length-append}
+use lib.Dec.{leb}
+use borrow.Author.Tests.{leb-true, leb-false, le-leb, lt-leb}
+use Rattle.hdlc.specs.Writing.{Room, Written}
+use Rattle.hdlc.proofs.Ending.{length-flag}
+use Rattle.hdlc.proofs.Writing.{Written-append}
+use Rattle.sender.specs.declared.Sender.{Sender}
+use Rattle.sender.specs.declared.Fill.{Fill}
+use Rattle.sender.specs.Record.{storeLength, slotAt, pending, inRange}
+use Rattle.sender.specs.Picking.{pick, served}
+use Rattle.sender.specs.Blocks.{Filled, full, andThen, nextFrame, placing, filled}
+use Rattle.sender.specs.BlockCalls.{FramesWritten}
+use Rattle.sender.proofs.PickingLaws.{served-in-range, length-served}
+use Rattle.sender.proofs.Filling.{filled-step}
+use Rattle.sender.proofs.FrameLength.{length-nextFrame}
+
+module _ (s : Sender) (store : List ℕ) (at enable u : ℕ) (e : inRange s ≡ true) (l : length (s .slots) ≡ 4) where
+  -- filling ends where none is picked, and where the frame that is would pass u
+  filled-none : pick s enable ≡ none → filled s store at enable u ≡ full s
+  unfolding placing
+  filled-none p = filled-step s store at enable u e l ∙ rw p
+
+  module _ (c : ℕ) (p : pick s enable ≡ some c) where
+    filled-past : u < at + length (nextFrame s store c) → filled s store at enable u ≡ full s
+    unfolding placing
+    filled-past h = filled-step s store at enable u e l ∙ rw (p, lt-leb (at + length (nextFrame s store c)) u h)
+
+    -- and otherwise goes on behind it
+    filled-more : at + length (nextFrame s store c) ≤ u
+        → filled s store at enable u ≡ andThen (nextFrame s store c) (filled (served s c) store (at + length (nextFrame s store c)) enable u)
+    unfolding placing
+    filled-more h = filled-step s store at enable u e l ∙ rw (p, le-leb (at + length (nextFrame s store c)) u h)
+
+-- the frame of a circuit at which a copy waits: where 209 bits are left it fits, and elsewhere its last bit's number is small
+module _ (s : Sender) (store : List ℕ) (c : ℕ) (range : inRange s ≡ true) (listed : c < s .circuits .count) (long : storeLength ≤ length store)
+    (waits : pending (slotAt s c) ≡ true) where
+  pub fits-longest : (at u : ℕ) → at + 209 ≤ u → true ≡ leb (at + length (nextFrame s store c)) u
+  fits-longest at u h = sym (le-leb (at + length (nextFrame s store c)) u (omega (arith, length-nextFrame s store c range listed long waits)))
+
+  pub nextFrame-small : (at n : ℕ) → at ≤ 27000 → n ≡ length (nextFrame s store c) → at + n < 2 ^ 64
+  nextFrame-small at n h e = omega (arith, length-nextFrame s store c range listed long waits)
+
+nextFrame-some : (s : Sender) (store : List ℕ) (c : ℕ) → 1 ≤ length (nextFrame s store c)
+unfolding nextFrame
+nextFrame-some s store c = rw length-append (omega (arith, length-flag))
+
+-- ---- what a turn keeps
+
+-- a frame written before what is filled behind it
+FramesWritten-andThen : {old mid new : List ℕ} {at next : ℕ} (bits : List Bool) (f : Filled) (r : Fill) → Written old at bits mid next
+    → FramesWritten mid next f new r
+    → FramesWritten old at (andThen bits f) new (record { sender = r .sender; at = r .at; placed = suc (r .placed) })
+unfolding andThen
+FramesWritten-andThen bits f r w g =
+    record { sender = g .sender; written = Written-append bits (f .bits) w (g .written); placed = ap suc (g .placed) }
+
+-- to fill what is left from here, with the frames placed so far, is to fill all from the start
+pub record ToFill (old : List ℕ) (s₀ : Sender) (store : List ℕ) (at₀ enable u : ℕ) (buffer : List ℕ) (s : Sender) (at placed : ℕ) : Type 0 where
+  pub long : length buffer ≡ length old
+  pub range : inRange s ≡ true
+  pub slots : length (s .slots) ≡ 4
+  pub within : at ≤ u
+  pub few : placed ≤ at
+  pub rest : (new : List ℕ) (r : Fill) → FramesWritten buffer at (filled s store at enable u) new r
+      → FramesWritten old at₀ (filled s₀ store at₀ enable u) new (record { sender = r .sender; at = r .at; placed = placed + r .placed })
+
+pub ToFill-start : (old : List ℕ) (s : Sender) (store : List ℕ) (at enable u : ℕ) → inRange s ≡ true → length (s .slots) ≡ 4 → at ≤ u
+    → ToFill old s store at enable u old s at 0
+ToFill-start old s store at enable u range slots within =
+    record {
+      long = refl;
+      range = range;
+      slots = slots;
+      within = within;
+      few = omega arith;
+      rest = λ new r f. record { sender = f .sender; written = f .written; placed = zero-add (r .placed) ∙ f .placed };
+    }
+
+module _ {old : List ℕ} {s₀ : Sender} {store : List ℕ} {at₀ enable u : ℕ} {buffer : List ℕ} {s : Sender} {at placed : ℕ}
+    (g : ToFill old s₀ store at₀ enable u buffer s at placed) where
+  -- all is filled
+  abbrev Done : Type 0
+  Done = FramesWritten old at₀ (filled s₀ store at₀ enable u) buffer (record { sender = s; at = at; placed = placed })
+
+  ends : filled s store at enable u ≡ full s → Done
+  unfolding full
+  ends e =
+      let here : FramesWritten buffer at (filled s store at enable u) buffer (record { sender = s; at = at; placed = 0 }) =
+      rw e (record { sender = refl; written = record { buffer = refl; behind = sym (add-zero at) }; placed = refl }) in
+      rw add-zero at (g .rest buffer (record { sender = s; at = at; placed = 0 }) here)
+
+  pub ToFill-none : pick s enable ≡ none → Done
+  ToFill-none p = ends (filled-none s store at enable u (g .range) (g .slots) p)
+
+  module _ {c : ℕ} (p : pick s enable ≡ some c) where
+    pub ToFill-past : leb (at + length (nextFrame s store c)) u ≡ false → Done
+    ToFill-past h = ends (filled-past s store at enable u (g .range) (g .slots) c p (leb-false _ _ h))
+
+    module _ (h : leb (at + length (nextFrame s store c)) u ≡ true) where
+      fits : at + length (nextFrame s store c) ≤ u
+      fits = leb-true (at + length (nextFrame s store c)) u h
+
+      pub ToFill-room : u ≤ 8 * length old → u ≤ 27000 → Room buffer at (nextFrame s store c)
+      ToFill-room within small = omega (arith, fits)
+
+      pub ToFill-step : {more : List ℕ} {next : ℕ} → Written buffer at (nextFrame s store c) more next → length more ≡ length buffer
+          → ToFill old s₀ store at₀ enable u more (served s c) next (placed + 1)
+      ToFill-step {more} {next} w l =
+          record {
+            long = l ∙ g .long;
+            range = served-in-range s enable c (g .range) p;
+            slots = length-served s c ∙ g .slots;
+            within = omega (arith, fits, w .behind);
+            few = omega (arith, nextFrame-some s store c, w .behind, g .few);
+            rest = again;
+          }
+        where
+          again : (new : List ℕ) (r : Fill) → FramesWritten more next (filled (served s c) store next enable u) new r
+              → FramesWritten old at₀ (filled s₀ store at₀ enable u) new (record { sender = r .sender; at = r .at; placed = placed + 1 + r .placed })
+          again new r f =
+              let later = filled (served s c) store next enable u in
+              let e : filled s store at enable u ≡ andThen (nextFrame s store c) later =
+              rw (← w .behind) at (filled-more s store at enable u (g .range) (g .slots) c p fits) in
+              let n : placed + suc (r .placed) ≡ placed + 1 + r .placed = omega arith in
+              rw n at
+              (g .rest new (record { sender = r .sender; at = r .at; placed = suc (r .placed) })
+              (rw e (FramesWritten-andThen (nextFrame s store c) later r w f)))

@@ -1,0 +1,83 @@
+-- Filling a block: the number of copies by which the definition recurses is never met before picking ends (`filled-step`); the record
+-- stays in range; and what is used is at most U.
+use mathlib.Core.Path.{_≡_, refl}
+use Prim.Native.Nat.{ℕ, zero, suc, _+_, _≤_}
+use native.Mathlib.Omega.{arith}
+use mathlib.Core.Bool.{Bool, true, false, cond}
+use mathlib.Core.List.{List}
+use mathlib.Core.Option.{Option, none, some}
+use lib.ListN.{length, length-append}
+use lib.Dec.{leb}
+use borrow.Author.Tests.{leb-true}
+use Rattle.sender.specs.declared.Sender.{Sender}
+use Rattle.sender.specs.Record.{inRange}
+use Rattle.sender.specs.Picking.{pick, served}
+use Rattle.sender.specs.Blocks.{Filled, full, andThen, nextFrame, placing, fill, filled, waiting}
+use Rattle.sender.proofs.PickingLaws.{served-in-range, waiting-served}
+
+-- where no copy waits none is picked
+pub pick-none : (s : Sender) (enable : ℕ) → inRange s ≡ true → length (s .slots) ≡ 4 → waiting s ≡ 0 → pick s enable ≡ none
+pick-none s enable e l w = go (pick s enable) refl
+  where
+    go : (o : Option ℕ) → pick s enable ≡ o → o ≡ none
+    go none p = refl
+    go (some c) p = absurd (omega (arith, waiting-served s enable c e l p))
+
+-- the count in `fill` is not seen
+pub filled-step : (s : Sender) (store : List ℕ) (at enable u : ℕ) → inRange s ≡ true → length (s .slots) ≡ 4
+    → filled s store at enable u
+    ≡ placing (pick s enable) s store at u (λ c. filled (served s c) store (at + length (nextFrame s store c)) enable u)
+unfolding filled fill placing
+filled-step s store at enable u e l = go (waiting s) refl
+  where
+    later : ℕ → Filled
+    later c = filled (served s c) store (at + length (nextFrame s store c)) enable u
+
+    picked : (n : ℕ) (o : Option ℕ) → waiting s ≡ suc n → pick s enable ≡ o
+        → placing o s store at u (λ c. fill n (served s c) store (at + length (nextFrame s store c)) enable u) ≡ placing o s store at u later
+    picked n none w p = refl
+    picked n (some c) w p =
+        let rest : n ≡ waiting (served s c) = omega (arith, waiting-served s enable c e l p) in
+        rw rest
+
+    go : (n : ℕ) → waiting s ≡ n → fill n s store at enable u ≡ placing (pick s enable) s store at u later
+    go zero w = rw (pick-none s enable e l w)
+    go (suc n) w = picked n (pick s enable) w refl
+
+-- what holds where filling ends, and behind a frame that does not pass U
+pub placing-cases : (P : Filled → Type 0) (o : Option ℕ) (s : Sender) (store : List ℕ) (at u : ℕ) (later : ℕ → Filled) → P (full s)
+    → ((c : ℕ) → o ≡ some c → at + length (nextFrame s store c) ≤ u → P (andThen (nextFrame s store c) (later c)))
+    → P (placing o s store at u later)
+unfolding placing
+placing-cases P none s store at u later ends goes = ends
+placing-cases P (some c) s store at u later ends goes = go (leb (at + length (nextFrame s store c)) u) refl
+  where
+    go : (t : Bool) → leb (at + length (nextFrame s store c)) u ≡ t → P (cond t (andThen (nextFrame s store c) (later c)) (full s))
+    go true e = goes c refl (leb-true (at + length (nextFrame s store c)) u e)
+    go false e = ends
+
+-- the record stays in range
+fill-in-range : (n : ℕ) (s : Sender) (store : List ℕ) (at enable u : ℕ) → inRange s ≡ true → inRange (fill n s store at enable u .sender) ≡ true
+unfolding fill full andThen
+fill-in-range zero s store at enable u e = e
+fill-in-range (suc n) s store at enable u e =
+    placing-cases (λ (f : Filled). inRange (f .sender) ≡ true) (pick s enable) s store at u
+    (λ c. fill n (served s c) store (at + length (nextFrame s store c)) enable u) e
+    (λ c p h. fill-in-range n (served s c) store (at + length (nextFrame s store c)) enable u (served-in-range s enable c e p))
+
+pub filled-in-range : (s : Sender) (store : List ℕ) (at enable u : ℕ) → inRange s ≡ true → inRange (filled s store at enable u .sender) ≡ true
+unfolding filled
+filled-in-range s store at enable u e = fill-in-range (waiting s) s store at enable u e
+
+-- what is used is at most U
+fill-used : (n : ℕ) (s : Sender) (store : List ℕ) (at enable u : ℕ) → at ≤ u → at + length (fill n s store at enable u .bits) ≤ u
+unfolding fill full andThen
+fill-used zero s store at enable u h = omega arith
+fill-used (suc n) s store at enable u h =
+    placing-cases (λ (f : Filled). at + length (f .bits) ≤ u) (pick s enable) s store at u
+    (λ c. fill n (served s c) store (at + length (nextFrame s store c)) enable u) (omega arith)
+    (λ c p l. rw length-append (omega (arith, fill-used n (served s c) store (at + length (nextFrame s store c)) enable u l)))
+
+pub filled-used : (s : Sender) (store : List ℕ) (at enable u : ℕ) → at ≤ u → at + length (filled s store at enable u .bits) ≤ u
+unfolding filled
+filled-used s store at enable u h = fill-used (waiting s) s store at enable u h

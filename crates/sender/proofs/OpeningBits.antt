@@ -1,0 +1,80 @@
+-- What a block begins with: a flag, and if one is wanted the system packet's frame and a flag. How long it is, and that it is written in
+-- these pieces.
+use mathlib.Core.Path.{_≡_, refl}
+use Prim.Native.Nat.{ℕ, _+_, _*_, _≤_}
+use native.Mathlib.Omega.{arith}
+use mathlib.Core.Bool.{Bool, true, false}
+use mathlib.Core.List.{List, _∷_, _++_, append-nil}
+use lib.ListN.{length, length-append}
+use Rattle.bits.specs.Bits.{byteBits, bitsOf}
+use Rattle.hdlc.specs.Frames.{flag, frame}
+use Rattle.hdlc.specs.Writing.{Room, Written}
+use Rattle.hdlc.proofs.Writing.{Written-append}
+use Rattle.hdlc.proofs.Ending.{length-flag}
+use Rattle.hdlc.proofs.InTurn.{bitsOf-cons}
+use Rattle.hdlc.proofs.FrameLength.{length-frame}
+use Rattle.packet.specs.Packets.{systemPacket}
+use Rattle.sender.specs.Blocks.{System, opening}
+use Rattle.sender.specs.BlockCalls.{Allowed}
+
+-- a system packet's bits are those of its bytes in turn
+module _ (enable code : ℕ) (information : List ℕ) where
+  -- what is left of it behind the address, and behind the control byte
+  abbrev pub behindAddress : List ℕ
+  behindAddress = (192 + enable) ∷ (16 * code + length information) ∷ information
+
+  abbrev pub behindControl : List ℕ
+  behindControl = (16 * code + length information) ∷ information
+
+  pub bitsOf-system : bitsOf (systemPacket enable code information) ≡ byteBits 0xff ++ bitsOf behindAddress
+  unfolding systemPacket
+  bitsOf-system = bitsOf-cons 0xff behindAddress
+
+-- its frame, with a flag, has at most 200 bits
+length-systemPacket : (enable code : ℕ) (information : List ℕ) → length (systemPacket enable code information) ≡ length information + 3
+unfolding systemPacket
+length-systemPacket enable code information = omega arith
+
+length-system : (enable code : ℕ) (information : List ℕ) → length information ≤ 15
+    → length (frame (systemPacket enable code information) ++ flag) ≤ 200
+length-system enable code information h =
+    rw length-append
+    (omega (arith, length-frame (systemPacket enable code information), length-systemPacket enable code information, length-flag))
+
+module _ (y : System) where
+  -- the system packet's frame and a flag
+  abbrev wantedBits : List Bool
+  wantedBits = frame (systemPacket (y .enable) (y .code) (y .information)) ++ flag
+
+  opening-wanted : y .wanted ≡ true → opening y ≡ flag ++ wantedBits
+  unfolding opening
+  opening-wanted e = rw e
+
+  opening-flag : y .wanted ≡ false → opening y ≡ flag
+  unfolding opening
+  opening-flag e = rw (e, append-nil)
+
+  pub length-opening : (y .wanted ≡ true → Allowed (y .enable) (y .code) (y .information)) → length (opening y) ≤ 208
+  length-opening allowed = go (y .wanted) refl
+    where
+      go : (t : Bool) → y .wanted ≡ t → length (opening y) ≤ 208
+      go true e =
+          rw (opening-wanted e, length-append)
+          (omega (arith, length-flag, length-system (y .enable) (y .code) (y .information) (allowed e .information)))
+      go false e = rw (opening-flag e) (omega (arith, length-flag))
+
+  -- behind the flag there is room for the system packet
+  pub Room-system : {old mid : List ℕ} {at : ℕ} → 256 ≤ 8 * length old → Allowed (y .enable) (y .code) (y .information)
+      → Written old 0 flag mid at → length mid ≡ length old → Room mid at wantedBits
+  Room-system {old} {mid} {at} long allowed w l =
+      let e : at ≡ 8 = omega (arith, w .behind, length-flag) in
+      let m : length wantedBits ≤ 200 = length-system (y .enable) (y .code) (y .information) (allowed .information) in
+      omega arith
+
+  -- what is written is the opening
+  pub Written-flag-alone : {old new : List ℕ} {at : ℕ} → y .wanted ≡ false → Written old 0 flag new at → Written old 0 (opening y) new at
+  Written-flag-alone e w = rw (opening-flag e) w
+
+  pub Written-opening : {old mid new : List ℕ} {at end : ℕ} → y .wanted ≡ true → Written old 0 flag mid at → Written mid at wantedBits new end
+      → Written old 0 (opening y) new end
+  Written-opening e v w = rw (opening-wanted e) (Written-append flag wantedBits v w)

@@ -1,0 +1,12 @@
+-- `sender::Sender::fresh` meets its contract.
+use mathlib.Core.Path.{refl}
+use Rattle.sender.specs.Record.{fresh, freshSlot}
+use Rattle.sender.proofs.Sender.fresh.Statement.{statement}
+use Rattle.sender.proofs.Sender.fresh.Tie as tie
+
+returns : tie.Need-returns
+unfolding fresh freshSlot
+returns c = refl
+
+pub fresh-spec : {M : Type 1} → statement M
+fresh-spec = tie.close (tie.spec returns)

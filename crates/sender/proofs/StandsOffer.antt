@@ -1,0 +1,113 @@
+-- Offering: the record and store after an accepted offer stand for the queues with the message's copies at its circuit. The message begins
+-- its own region, and no other region changes.
+use Prim.Native.Nat.{ℕ, suc, _+_, _-_, _*_, _≤_, _<_}
+use native.Mathlib.Omega.{arith}
+use mathlib.Core.Bool.{Bool, true, false}
+use mathlib.Core.List.{List, [], _∷_, _++_, append-assoc}
+use mathlib.Core.Path.{_≡_, refl, ap, _∙_}
+use lib.ListN.{length, take, drop, getD, set}
+use lib.Seq.{sets, sets-eq, take-set-le, take-set-lt, drop-set-lt, drop-set-add, take-append-seam, drop-at, length-take-le}
+use lib.Dec.{ltb}
+use borrow.Author.Tests.{ltb-true, ltb-false}
+use Rattle.packet.specs.Circuits.{noCircuit}
+use Rattle.sender.specs.declared.Slot.{Slot}
+use Rattle.sender.specs.declared.Sender.{Sender}
+use Rattle.sender.specs.Record.{region, slotAt, messageAt, inRange, slotInRange}
+use Rattle.sender.specs.Offering.{offerRefusal, offeredSender, offeredStore}
+use Rattle.sender.specs.Queues.{Queues, queueAt, offered, offerQueues}
+use Rattle.sender.specs.Stands.{Stands}
+use Rattle.sender.proofs.PickingLaws.{slotInRange-facts, facts-slotInRange, inRange-facts, facts-inRange, slotsInRange-set, slotInRange-slotAt}
+use Rattle.sender.proofs.Offers.{OfferFacts, offerRefusal-zero}
+use Rattle.sender.proofs.Stands.{StandsFor-offered}
+use Rattle.sender.proofs.StandsPick.{Stands-set}
+
+module _ {A : Type 0} where
+  -- m elements from n on stay where a stretch is written behind them
+  take-drop-set : (m n : ℕ) (l : List A) (i : ℕ) (a : A) → n + m ≤ i → take m (drop n (set l i a)) ≡ take m (drop n l)
+  take-drop-set m n l i a h =
+      let e : i ≡ n + (i - n) = omega arith in
+      rw (e, drop-set-add n l (i - n) a) (take-set-le m (drop n l) (i - n) a (omega arith))
+
+  take-drop-sets-behind : (v : List A) (m n : ℕ) (l : List A) (i : ℕ) → n + m ≤ i → take m (drop n (sets l i v)) ≡ take m (drop n l)
+  take-drop-sets-behind [] m n l i h = refl
+  take-drop-sets-behind (a ∷ v) m n l i h = take-drop-sets-behind v m n (set l i a) (suc i) (omega arith) ∙ take-drop-set m n l i a h
+
+  -- or before them
+  drop-sets-before : (v : List A) (n : ℕ) (l : List A) (i : ℕ) → i + length v ≤ n → drop n (sets l i v) ≡ drop n l
+  drop-sets-before [] n l i h = refl
+  drop-sets-before (a ∷ v) n l i h = drop-sets-before v n (set l i a) (suc i) (omega arith) ∙ drop-set-lt n l i a (omega arith)
+
+  -- what was written is there
+  take-drop-sets : (v : List A) (l : List A) (i : ℕ) → i + length v ≤ length l → take (length v) (drop i (sets l i v)) ≡ v
+  take-drop-sets v l i h =
+      rw (sets-eq v l i h, append-assoc, drop-at (take i l) (v ++ drop (i + length v) l) i (length-take-le i l (omega arith)))
+      (take-append-seam v (drop (i + length v) l))
+
+-- regions: the message begins its own, and the others keep their first bytes
+module _ (store : List ℕ) (c : ℕ) (message : List ℕ) (fits : length message ≤ 4094) where
+  region-own : c < 4 → 16384 ≤ length store → take (length message) (drop (region * c) (offeredStore store c message)) ≡ message
+  unfolding offeredStore region
+  region-own four long = take-drop-sets message store (4096 * c) (omega arith)
+
+  region-other : (i n : ℕ) → (i ≡ c → ⊥) → n ≤ 4094
+      → take n (drop (region * i) (offeredStore store c message)) ≡ take n (drop (region * i) store)
+  unfolding offeredStore region
+  region-other i n other small = go (ltb i c) refl
+    where
+      go : (b : Bool) → ltb i c ≡ b → take n (drop (4096 * i) (sets store (4096 * c) message)) ≡ take n (drop (4096 * i) store)
+      go true e =
+          let before : i < c = ltb-true i c e in
+          take-drop-sets-behind message n (4096 * i) store (4096 * c) (omega arith)
+      go false e =
+          let behind : c ≤ i = ltb-false i c e in
+          ap (take n) (drop-sets-before message (4096 * i) store (4096 * c) (omega arith))
+
+-- an accepted offer
+module _ (s : Sender) (store : List ℕ) (q : Queues) (h : Stands s store q) (c priority repetition : ℕ) (message : List ℕ)
+    (e : offerRefusal s store c priority repetition message ≡ 0) where
+  a : OfferFacts s store c priority repetition message
+  a = offerRefusal-zero s store c priority repetition message e
+
+  newSlot : Slot
+  newSlot = record { index = slotAt s c .index; priority = priority; repetition = repetition; copy = 0; length = length message; place = 0 }
+
+  newSlot-in-range : slotInRange newSlot ≡ true
+  unfolding newSlot
+  newSlot-in-range =
+      facts-slotInRange newSlot
+      (record {
+        index = slotInRange-facts (slotAt s c) (slotInRange-slotAt s c (h .range) (a .circuit)) .index;
+        priority = a .priority;
+        repetition = a .repetition;
+        length = a .message;
+        place = omega arith;
+        copy = omega arith;
+      })
+
+  offered-in-range : inRange (offeredSender s c priority repetition message) ≡ true
+  unfolding offeredSender newSlot
+  offered-in-range =
+      let f = inRange-facts s (h .range) in
+      facts-inRange (offeredSender s c priority repetition message)
+      (record {
+        count = f .count;
+        circuits = f .circuits;
+        last = f .last;
+        slots =
+            rw (take-set-lt (s .circuits .count) (s .slots) c newSlot (a .circuit))
+            (slotsInRange-set (take (s .circuits .count) (s .slots)) c newSlot (f .slots) newSlot-in-range);
+      })
+
+  pub stands-offer : Stands (offeredSender s c priority repetition message) (offeredStore store c message)
+      (offerQueues q c priority repetition message)
+  unfolding offeredSender offerQueues newSlot messageAt
+  stands-offer =
+      let four : c < 4 = omega (arith, a .circuit, inRange-facts s (h .range) .count) in
+      Stands-set s store q h (offeredStore store c message) c newSlot (offered (queueAt q c) priority repetition message)
+      (s .last) (q .last) (h .last) (a .circuit) offered-in-range
+      (λ i other listed.
+      region-other store c message (a .message) i (slotAt s i .length) other
+      (slotInRange-facts (slotAt s i) (slotInRange-slotAt s i (h .range) listed) .length))
+      (rw (region-own store c message (a .message) four (a .long))
+      (StandsFor-offered (getD (s .circuits .list) c noCircuit) (slotAt s c) (messageAt s store c) (queueAt q c)
+      (h .each c (a .circuit)) (a .free) priority repetition message))

@@ -1,0 +1,44 @@
+-- `sender::blocks::close` meets its contract: two runs are written, one behind the other.
+use borrow.Author.Needs.{needs}
+use Rattle.sender.proofs.blocks.close.Statement.{statement}
+use Rattle.sender.proofs.blocks.close.Tie as tie
+
+sub-put-run : tie.Need-sub-put-run
+sub-put-run c = search needs
+
+put-run-requires : tie.Need-put-run-requires
+put-run-requires c κs = search needs
+
+add-put-run : tie.Need-add-put-run
+add-put-run c = search needs
+
+mul-put-run : tie.Need-mul-put-run
+mul-put-run c = search needs
+
+sub-put-run-2 : tie.Need-sub-put-run-2
+sub-put-run-2 c = search needs
+
+put-run-requires-2 : tie.Need-put-run-requires-2
+put-run-requires-2 c κs = search needs
+
+same-length : tie.Need-same-length
+same-length c = search needs
+
+returns : tie.Need-returns
+returns c =
+    let zeros = c .before .before in
+    let ones = zeros .before .before .before .before in
+    record { bits = cc (zeros .put-run2 .ensures, ones .put-run .ensures) }
+
+pub close-spec : {M : Type 1} → statement M
+close-spec =
+    tie.close
+    (tie.spec
+    sub-put-run
+    put-run-requires
+    add-put-run
+    mul-put-run
+    sub-put-run-2
+    put-run-requires-2
+    same-length
+    returns)

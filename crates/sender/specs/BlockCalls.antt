@@ -1,0 +1,55 @@
+-- What the functions of block making say of the record, the answer and the buffer (document 01, "Blocks" and "Calls and their refusals").
+use Prim.Native.Nat.{ℕ, _+_, _-_, _*_, _/_, _≤_}
+use mathlib.Core.Bool.{Bool, true, false, cond}
+use mathlib.Core.List.{List}
+use mathlib.Core.Path.{_≡_}
+use lib.ListN.{length, replicate}
+use lib.Seq.{sets}
+use lib.Dec.{eqb}
+use Rattle.bits.specs.Bits.{bitsOf}
+use Rattle.hdlc.specs.Writing.{Written}
+use Rattle.sender.specs.declared.Sender.{Sender}
+use Rattle.sender.specs.declared.Fill.{Fill}
+use Rattle.sender.specs.declared.Made.{Made}
+use Rattle.sender.specs.declared.Made.the-variants.{Block, Refused}
+use Rattle.sender.specs.declared.Making.{Making}
+use Rattle.sender.specs.Blocks.{Filled, System, blockFilled, usedBits, blockRefusal, senderAfterBlock, bufferAfterBlock}
+
+-- what a block call asks for
+abbrev pub system : Bool → ℕ → ℕ → List ℕ → System
+system wanted enable code information = record { wanted = wanted; enable = enable; code = code; information = information }
+
+-- a system packet that refusal 13 lets pass
+pub record Allowed (e c : ℕ) (bytes : List ℕ) : Type 0 where
+  pub enable : e ≤ 15
+  pub code : c ≤ 8
+  pub information : length bytes ≤ 15
+
+-- the frames are written from bit `at` on, and `r` tells of them
+pub record FramesWritten (old : List ℕ) (at : ℕ) (f : Filled) (new : List ℕ) (r : Fill) : Type 0 where
+  pub sender : r .sender ≡ f .sender
+  pub written : Written old at (f .bits) new (r .at)
+  pub placed : r .placed ≡ f .placed
+
+-- the block of n bits is closed: ones from bit `used` to n, and the spare bits of the last byte 0
+pub record Closed (old : List ℕ) (used n : ℕ) (new : List ℕ) : Type 0 where
+  pub bits : bitsOf new ≡ sets (sets (bitsOf old) used (replicate (n - used) true)) n (replicate (8 * ((n + 7) / 8) - n) false)
+
+-- the answer to a block call: "The answer has frames placed (system excluded) and bits used", or the refusal's number
+unfoldable pub madeOf : ℕ → ℕ → ℕ → Made
+madeOf refusal placed used = cond (eqb refusal 0) (Block placed used) (Refused refusal)
+
+-- the number of an answer in document 01: 0 stands for a block
+unfoldable pub madeNumber : Made → ℕ
+madeNumber (Block placed used) = 0
+madeNumber (Refused n) = n
+
+unfoldable pub answerToBlock : Sender → List ℕ → List ℕ → ℕ → ℕ → System → Made
+answerToBlock s store buffer n u y =
+    madeOf (blockRefusal s store buffer n u y) (blockFilled s store u y .placed) (length (usedBits s store u y))
+
+-- what a block call returns and leaves
+pub record BlockCalled (s : Sender) (store old : List ℕ) (n u : ℕ) (y : System) (new : List ℕ) (r : Making) : Type 0 where
+  pub sender : r .sender ≡ senderAfterBlock s store old n u y
+  pub made : r .made ≡ answerToBlock s store old n u y
+  pub buffer : new ≡ bufferAfterBlock s store old n u y

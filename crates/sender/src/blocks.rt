@@ -1,0 +1,224 @@
+// Blocks: the opening, the frames behind it, the closing ones and the spare zeros.
+ghost use mathlib.Core.Path.{_≡_};
+ghost use Prim.Native.Nat.{_+_, _*_, _≤_, _<_};
+ghost use mathlib.Core.Bool.{true, cond, _&&_, _||_};
+ghost use mathlib.Core.List.{_++_};
+ghost use lib.ListN.{length};
+ghost use lib.Dec.{leb, ltb};
+ghost use Rattle.hdlc.specs.Frames.{flag, frame};
+ghost use Rattle.hdlc.specs.Writing.{Room, Written};
+ghost use Rattle.packet.specs.Packets.{systemPacket};
+ghost use Rattle.sender.specs.Record.{storeLength, slotAt, pending, inRange};
+ghost use Rattle.sender.specs.Blocks.{nextFrame, filled, opening, blockRefusal};
+ghost use Rattle.sender.specs.BlockCalls.{system, Allowed, FramesWritten, Closed, BlockCalled};
+use crate::Fill;
+use crate::Made;
+use crate::Making;
+use crate::Pick;
+use crate::Sender;
+use crate::picking;
+use crate::writing;
+use hdlc::Pen;
+
+// The longest frame of a packet, with its flag: 19 bytes and the FCS, stuffed.
+const LONGEST: usize = 209;
+
+// A system packet's frame written at bit `at`, and the flag behind it.
+fn put_system(buf: &mut [u8], at: usize, enable: u8, code: u8, information: &[u8]) -> usize
+    requires { ⌜ Allowed enable code (now information) ⌝ }
+    requires { ⌜ Room (now buf) at (frame (systemPacket enable code (now information)) ++ flag) ⌝ }
+    ensures { λ r. ⌜ Written (now (buf .entry)) at (frame (systemPacket enable code (now (information .entry))) ++ flag) (now (buf .exit)) r ⌝ }
+{
+    let n = information.len() as u8;
+    let address = hdlc::stuff_byte(buf, Pen::new(at), 0xff);
+    let control = hdlc::stuff_byte(buf, address, 192 + enable);
+    let descriptor = hdlc::stuff_byte(buf, control, 16 * code + n);
+    let end = hdlc::stuff_bytes(buf, descriptor, information);
+    hdlc::end_frame(buf, end)
+}
+
+// What a block begins with: a flag, and if one is wanted the system packet's frame and a flag.
+fn put_opening(buf: &mut [u8], wanted: bool, enable: u8, code: u8, information: &[u8]) -> usize
+    requires { ⌜ 256 ≤ 8 * length (now buf) ⌝ }
+    requires { ⌜ (wanted ≡ true → Allowed enable code (now information)) ⌝ }
+    ensures { λ r. ⌜ Written (now (buf .entry)) 0 (opening (system wanted enable code (now (information .entry)))) (now (buf .exit)) r ⌝ }
+{
+    let at = hdlc::put_flag(buf, 0);
+    if !wanted {
+        return at;
+    }
+    put_system(buf, at, enable, code, information)
+}
+
+// The frame that is next at a circuit, with its flag, does not pass u. Only near u is it counted first.
+fn fits(sender: Sender, store: &[u8], circuit: usize, at: usize, u: usize) -> bool
+    requires { ⌜ inRange sender ≡ true ⌝ }
+    requires { ⌜ circuit < sender .circuits .count ⌝ }
+    requires { ⌜ pending (slotAt sender circuit) ≡ true ⌝ }
+    requires { ⌜ storeLength ≤ length (now store) ⌝ }
+    requires { ⌜ (at ≤ u) × (u ≤ 27000) ⌝ }
+    ensures { λ r. ⌜ r ≡ leb (at + length (nextFrame sender (now (store .entry)) circuit)) u ⌝ }
+{
+    if at + LONGEST <= u {
+        return true;
+    }
+    at + writing::next_length(sender, store, circuit) <= u
+}
+
+// Frames from bit `at` on, each with a flag after it, until none waits or the next would pass u.
+fn fill(buf: &mut [u8], sender: Sender, store: &[u8], at: usize, enable: u8, u: usize) -> Fill
+    requires { ⌜ inRange sender ≡ true ⌝ }
+    requires { ⌜ storeLength ≤ length (now store) ⌝ }
+    requires { ⌜ (at ≤ u) × (u ≤ 8 * length (now buf)) × (u ≤ 27000) ⌝ }
+    ensures { λ r. ⌜ FramesWritten (now (buf .entry)) at (filled sender (now (store .entry)) at enable u) (now (buf .exit)) r ⌝ }
+{
+    let mut s = sender;
+    let mut end = at;
+    let mut placed: usize = 0;
+    loop {
+        let picked = picking::pick(s, enable);
+        let Pick::Circuit(circuit) = picked else {
+            break;
+        };
+        if !fits(s, store, circuit, end, u) {
+            break;
+        }
+        end = writing::put_next(buf, end, s, store, circuit);
+        s = picking::serve(s, circuit);
+        placed += 1;
+    }
+    Fill {
+        sender: s,
+        at: end,
+        placed,
+    }
+}
+
+// The enable bits of a block.
+fn enable_bits(wanted: bool, enable: u8) -> u8
+    ensures { λ r. ⌜ r ≡ cond wanted enable 15 ⌝ }
+{
+    if !wanted {
+        return 15;
+    }
+    enable
+}
+
+// The end of a block of n bits: ones from bit `used` on, and zeros in what is left of the last byte.
+fn close(buf: &mut [u8], used: usize, n: usize)
+    requires { ⌜ (used ≤ n) × (n ≤ 27000) × (n ≤ 8 * length (now buf)) ⌝ }
+    ensures { λ r. ⌜ Closed (now (buf .entry)) used n (now (buf .exit)) ⌝ }
+{
+    bits::put_run(buf, used, n - used, true);
+    bits::put_run(buf, n, 8 * ((n + 7) / 8) - n, false);
+}
+
+// The refusal of what is asked for as a system packet, 0 if there is none.
+fn system_refusal(wanted: bool, enable: u8, code: u8, length: usize) -> u8
+    ensures { λ r. ⌜ r ≡ cond (wanted && (ltb 15 enable || ltb 8 code || ltb 15 length)) 13 0 ⌝ }
+{
+    if !wanted {
+        return 0;
+    }
+    if 15 < enable {
+        return 13;
+    }
+    if 8 < code {
+        return 13;
+    }
+    if 15 < length {
+        return 13;
+    }
+    0
+}
+
+// The refusal of a block call, 0 if it is accepted.
+fn refusal(
+    sender: Sender,
+    store: &[u8],
+    buf: &[u8],
+    n: usize,
+    u: usize,
+    wanted: bool,
+    enable: u8,
+    code: u8,
+    information: &[u8],
+) -> u8
+    ensures { λ r. ⌜ r ≡ blockRefusal sender (now (store .entry)) (now (buf .entry)) n u (system wanted enable code (now (information .entry))) ⌝ }
+{
+    if !sender.in_range() {
+        return 14;
+    }
+    if store.len() < Sender::STORE {
+        return 5;
+    }
+    if n < 256 {
+        return 11;
+    }
+    if 27000 < n {
+        return 11;
+    }
+    if u < 256 {
+        return 11;
+    }
+    if n < u {
+        return 11;
+    }
+    if buf.len() < (n + 7) / 8 {
+        return 12;
+    }
+    system_refusal(wanted, enable, code, information.len())
+}
+
+// A block that no refusal stops.
+fn write_block(
+    sender: Sender,
+    store: &[u8],
+    buf: &mut [u8],
+    n: usize,
+    u: usize,
+    wanted: bool,
+    enable: u8,
+    code: u8,
+    information: &[u8],
+) -> Making
+    requires { ⌜ blockRefusal sender (now store) (now buf) n u (system wanted enable code (now information)) ≡ 0 ⌝ }
+    ensures { λ r. ⌜ BlockCalled sender (now (store .entry)) (now (buf .entry)) n u (system wanted enable code (now (information .entry))) (now (buf .exit)) r ⌝ }
+{
+    let at = put_opening(buf, wanted, enable, code, information);
+    let f = fill(buf, sender, store, at, enable_bits(wanted, enable), u);
+    close(buf, f.at, n);
+    let s = f.sender;
+    Making {
+        made: Made::Block {
+            placed: f.placed,
+            used: f.at,
+        },
+        sender: s,
+    }
+}
+
+// A block of n bits, of which u may be used, made into the buffer from the messages in the store: a system packet, if one is wanted,
+// and the frames that are next.
+pub fn make_block(
+    sender: Sender,
+    store: &[u8],
+    buf: &mut [u8],
+    n: usize,
+    u: usize,
+    wanted: bool,
+    enable: u8,
+    code: u8,
+    information: &[u8],
+) -> Making
+    ensures { λ r. ⌜ BlockCalled sender (now (store .entry)) (now (buf .entry)) n u (system wanted enable code (now (information .entry))) (now (buf .exit)) r ⌝ }
+{
+    let number = refusal(sender, store, buf, n, u, wanted, enable, code, information);
+    if number != 0 {
+        return Making {
+            made: Made::Refused(number),
+            sender,
+        };
+    }
+    write_block(sender, store, buf, n, u, wanted, enable, code, information)
+}

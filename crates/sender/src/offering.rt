@@ -1,0 +1,116 @@
+// A message is offered at a circuit.
+ghost use mathlib.Core.Path.{_≡_};
+ghost use Prim.Native.Nat.{_≤_, _<_};
+ghost use lib.ListN.{length};
+ghost use lib.Seq.{sets};
+ghost use Rattle.packet.specs.Answers.{answerOf};
+ghost use Rattle.sender.specs.Offering.{offerRefusal, offeredSender, senderAfterOffer, storeAfterOffer};
+use super::Offered;
+use super::Sender;
+use super::Slot;
+use super::listing::pending;
+use packet::Answer;
+
+// The bytes of src go to the start of dst.
+fn copy_in(dst: &mut [u8], src: &[u8])
+    requires { ⌜ length (now src) ≤ length (now dst) ⌝ }
+    ensures { λ r. ⌜ now (dst .exit) ≡ sets (now (dst .entry)) 0 (now (src .entry)) ⌝ }
+{
+    let mut i = 0;
+    while i < src.len() {
+        dst[i] = src[i];
+        i += 1;
+    }
+}
+
+impl Sender {
+    // The number of an offer's refusal, 0 if it is accepted.
+    fn offer_refusal(
+        self,
+        store: &[u8],
+        circuit: usize,
+        priority: u8,
+        repetition: u8,
+        message: &[u8],
+    ) -> u8
+        ensures { λ r. ⌜ r ≡ offerRefusal self (now (store .entry)) circuit priority repetition (now (message .entry)) ⌝ }
+    {
+        if !self.in_range() {
+            return 14;
+        }
+        if store.len() < Sender::STORE {
+            return 5;
+        }
+        let circuits = self.circuits;
+        let count = circuits.count as usize;
+        if count <= circuit {
+            return 6;
+        }
+        if 3 < priority {
+            return 7;
+        }
+        if 5 < repetition {
+            return 8;
+        }
+        if 4094 < message.len() {
+            return 9;
+        }
+        let slots = self.slots;
+        let t = slots[circuit];
+        if pending(t) {
+            return 10;
+        }
+        0
+    }
+
+    // The record with a message to send.
+    fn offered(self, circuit: usize, priority: u8, repetition: u8, message: &[u8]) -> Sender
+        requires { ⌜ (circuit < 4) × (length (now message) ≤ 4094) ⌝ }
+        ensures { λ r. ⌜ r ≡ offeredSender self circuit priority repetition (now (message .entry)) ⌝ }
+    {
+        let circuits = self.circuits;
+        let mut slots = self.slots;
+        let t = slots[circuit];
+        slots[circuit] = Slot {
+            index: t.index,
+            priority,
+            repetition,
+            copy: 0,
+            length: message.len() as u16,
+            place: 0,
+        };
+        Sender {
+            circuits,
+            slots,
+            last: self.last,
+        }
+    }
+
+    // A message is offered at a circuit.
+    pub fn offer(
+        self,
+        store: &mut [u8],
+        circuit: usize,
+        priority: u8,
+        repetition: u8,
+        message: &[u8],
+    ) -> Offered
+        ensures { λ r. ⌜ (r .answer ≡ answerOf (offerRefusal self (now (store .entry)) circuit priority repetition (now (message .entry))))
+            × (r .sender ≡ senderAfterOffer self (now (store .entry)) circuit priority repetition (now (message .entry)))
+            × (now (store .exit) ≡ storeAfterOffer self (now (store .entry)) circuit priority repetition (now (message .entry))) ⌝ }
+    {
+        let refusal = self.offer_refusal(store, circuit, priority, repetition, message);
+        if refusal != 0 {
+            return Offered {
+                answer: Answer::Refused(refusal),
+                sender: self,
+            };
+        }
+        let start = Sender::REGION * circuit;
+        copy_in(&mut store[start..], message);
+        Offered {
+            answer: Answer::Accepted,
+            sender: self.offered(circuit, priority, repetition, message),
+        }
+    }
+}
