@@ -48,7 +48,7 @@ module _ (s : Sender) (store : List ℕ) (c : ℕ) (e : inRange s ≡ true) (h :
   number-lt = omega (arith, inRange-facts s e .count)
 
   pub slotAt-short : slotAt s c .length ≤ 4094
-  slotAt-short = slotInRange-facts (slotAt s c) (slotInRange-slotAt s c e h) .length
+  slotAt-short = slotInRange-facts (slotAt s c) (slotInRange-slotAt s c e h) .short
 
   pub length-messageAt : length (messageAt s store c) ≡ slotAt s c .length
   unfolding messageAt storeLength region

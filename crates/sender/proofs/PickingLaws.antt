@@ -18,13 +18,11 @@ use Rattle.sender.specs.declared.Sender.{Sender}
 use Rattle.sender.specs.Record.{noSlot, slotAt, pending, slotInRange, slotsInRange, inRange}
 use Rattle.sender.specs.Picking.{enabled, waitsAt, goingRound, firstWaiting, orElse, pickFrom, pick, advanced, served, copiesWaiting}
 use Rattle.sender.specs.Blocks.{copiesIn, waiting}
+use Rattle.bits.proofs.Tests.{and-both}
 
 -- ---- records in range
 
 -- both tests of a conjunction
-and-intro : {a b : Bool} → a ≡ true → b ≡ true → (a && b) ≡ true
-and-intro {a} {b} p q = rw p q
-
 and-elim : (a b : Bool) → (a && b) ≡ true → (a ≡ true) × (b ≡ true)
 and-elim a b e = and-eq-true-iff a b .0 e
 
@@ -33,7 +31,7 @@ pub record SlotFacts (t : Slot) : Type 0 where
   pub index : t .index ≤ 7
   pub priority : t .priority ≤ 3
   pub repetition : t .repetition ≤ 5
-  pub length : t .length ≤ 4094
+  pub short : t .length ≤ 4094
   pub place : t .place ≤ packets (t .length)
   pub copy : t .copy ≤ t .repetition
 
@@ -49,7 +47,7 @@ slotInRange-facts t e =
       index = leb-true _ _ index;
       priority = leb-true _ _ priority;
       repetition = leb-true _ _ repetition;
-      length = leb-true _ _ length;
+      short = leb-true _ _ length;
       place = leb-true _ _ place;
       copy = leb-true _ _ copy;
     }
@@ -57,13 +55,13 @@ slotInRange-facts t e =
 pub facts-slotInRange : (t : Slot) → SlotFacts t → slotInRange t ≡ true
 unfolding slotInRange
 facts-slotInRange t f =
-    and-intro
-    (and-intro
-    (and-intro
-    (and-intro
-    (and-intro (le-leb _ _ (f .index)) (le-leb _ _ (f .priority)))
+    and-both _ _
+    (and-both _ _
+    (and-both _ _
+    (and-both _ _
+    (and-both _ _ (le-leb _ _ (f .index)) (le-leb _ _ (f .priority)))
     (le-leb _ _ (f .repetition)))
-    (le-leb _ _ (f .length)))
+    (le-leb _ _ (f .short)))
     (le-leb _ _ (f .place)))
     (le-leb _ _ (f .copy))
 
@@ -85,8 +83,8 @@ inRange-facts s e =
 pub facts-inRange : (s : Sender) → SenderFacts s → inRange s ≡ true
 unfolding inRange
 facts-inRange s f =
-    and-intro
-    (and-intro (and-intro (le-leb _ _ (f .count)) (eq-eqb _ _ (f .circuits))) (le-leb _ _ (f .last)))
+    and-both _ _
+    (and-both _ _ (and-both _ _ (le-leb _ _ (f .count)) (eq-eqb _ _ (f .circuits))) (le-leb _ _ (f .last)))
     (f .slots)
 
 -- the slot of a circuit number, and a slot that is changed
@@ -99,10 +97,10 @@ slotsInRange-getD (t ∷ ts) (suc i) e = slotsInRange-getD ts i (and-elim (slotI
 pub slotsInRange-set : (ts : List Slot) (i : ℕ) (t : Slot) → slotsInRange ts ≡ true → slotInRange t ≡ true → slotsInRange (set ts i t) ≡ true
 unfolding slotsInRange
 slotsInRange-set [] i t e h = refl
-slotsInRange-set (x ∷ ts) zero t e h = and-intro h (and-elim (slotInRange x) (slotsInRange ts) e .1)
+slotsInRange-set (x ∷ ts) zero t e h = and-both _ _ h (and-elim (slotInRange x) (slotsInRange ts) e .1)
 slotsInRange-set (x ∷ ts) (suc i) t e h =
     let (f, g) = and-elim (slotInRange x) (slotsInRange ts) e in
-    and-intro f (slotsInRange-set ts i t g h)
+    and-both _ _ f (slotsInRange-set ts i t g h)
 
 pub slotInRange-slotAt : (s : Sender) (c : ℕ) → inRange s ≡ true → c < s .circuits .count → slotInRange (slotAt s c) ≡ true
 unfolding slotAt

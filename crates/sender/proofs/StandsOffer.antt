@@ -79,7 +79,7 @@ module _ (s : Sender) (store : List ℕ) (q : Queues) (h : Stands s store q) (c 
         index = slotInRange-facts (slotAt s c) (slotInRange-slotAt s c (h .range) (a .circuit)) .index;
         priority = a .priority;
         repetition = a .repetition;
-        length = a .message;
+        short = a .message;
         place = omega arith;
         copy = omega arith;
       })
@@ -107,7 +107,7 @@ module _ (s : Sender) (store : List ℕ) (q : Queues) (h : Stands s store q) (c 
       (s .last) (q .last) (h .last) (a .circuit) offered-in-range
       (λ i other listed.
       region-other store c message (a .message) i (slotAt s i .length) other
-      (slotInRange-facts (slotAt s i) (slotInRange-slotAt s i (h .range) listed) .length))
+      (slotInRange-facts (slotAt s i) (slotInRange-slotAt s i (h .range) listed) .short))
       (rw (region-own store c message (a .message) four (a .long))
       (StandsFor-offered (getD (s .circuits .list) c noCircuit) (slotAt s c) (messageAt s store c) (queueAt q c)
       (h .each c (a .circuit)) (a .free) priority repetition message))

@@ -55,7 +55,7 @@ pending-requires : tie.Need-pending-requires
 unfolding slotAt noSlot
 pending-requires c κs =
     let t = slotInRange-slotAt (c .before .before .before .before .before .before .before .before .before .before .before .before .before .args .self) _ (in-range (c .before .before .before .before .before .before .before .before .before)) (c .before .before .before .before .before .if3 .left) in
-    slotInRange-facts _ t .length
+    slotInRange-facts _ t .short
 
 returns-7 : tie.Need-returns-7
 unfolding offerRefusal storeLength region slotAt noSlot

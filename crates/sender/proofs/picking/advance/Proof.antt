@@ -22,7 +22,7 @@ add-next-2 c =
     let t = c .before .before .before .before .args .t in
     let p = c .before .before .before .before .pre in
     let f = slotPending t (p .0) (p .1) in
-    omega (arith, packets-most (t .length) (f .inRange .length), f .pending)
+    omega (arith, packets-most (t .length) (f .inRange .short), f .pending)
 
 returns-2 : tie.Need-returns-2
 returns-2 c =

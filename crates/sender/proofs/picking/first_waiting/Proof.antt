@@ -54,7 +54,7 @@ waits-requires : tie.Need-waits-requires Inv-loop μ-loop
 unfolding slotAt noSlot
 waits-requires c κs =
     let start = c .before .before .before .before in
-    slotInRange-facts _ (slotInRange-slotAt (start .args .t1) _ (start .pre) (c .before .if1 .taken)) .length
+    slotInRange-facts _ (slotInRange-slotAt (start .args .t1) _ (start .pre) (c .before .if1 .taken)) .short
 
 -- what the call told is what the definition tests
 waited : (c : tie.After-waits Inv-loop μ-loop) →

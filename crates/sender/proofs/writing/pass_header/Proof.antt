@@ -28,7 +28,7 @@ cast-n c = search needs
 header-first-requires : tie.Need-header-first-requires
 header-first-requires c κs =
     let s = c .before .before .before in
-    slotInRange-facts (s .args .slot) (s .pre .0) .length
+    slotInRange-facts (s .args .slot) (s .pre .0) .short
 
 pass-byte-requires : tie.Need-pass-byte-requires
 pass-byte-requires c κs =
@@ -57,7 +57,7 @@ returns-2 c =
 header-second-requires : tie.Need-header-second-requires
 header-second-requires c κs =
     let s = c .before .before .before .before .before .before .before in
-    slotInRange-facts (s .args .slot) (s .pre .0) .length
+    slotInRange-facts (s .args .slot) (s .pre .0) .short
 
 pass-byte-requires-2 : tie.Need-pass-byte-requires-2
 pass-byte-requires-2 c κs =

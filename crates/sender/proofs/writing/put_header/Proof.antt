@@ -21,7 +21,7 @@ cast-n c = search needs
 header-first-requires : tie.Need-header-first-requires
 header-first-requires c κs =
     let s = c .before .before .before .before .before in
-    slotInRange-facts (s .args .slot) (s .pre .0) .length
+    slotInRange-facts (s .args .slot) (s .pre .0) .short
 
 stuff-byte-requires : tie.Need-stuff-byte-requires
 stuff-byte-requires c κs =
@@ -53,7 +53,7 @@ returns-2 c =
 header-second-requires : tie.Need-header-second-requires
 header-second-requires c κs =
     let s = c .before .before .before .before .before .before .before .before .before .before .before .before in
-    slotInRange-facts (s .args .slot) (s .pre .0) .length
+    slotInRange-facts (s .args .slot) (s .pre .0) .short
 
 stuff-byte-requires-2 : tie.Need-stuff-byte-requires-2
 stuff-byte-requires-2 c κs =
