@@ -3,3 +3,4 @@ pub mod Lists
 pub mod Bits
 pub mod BitInByte
 pub mod Tests
+pub mod Each

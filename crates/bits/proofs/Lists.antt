@@ -1,11 +1,12 @@
 -- Laws of lists: a stretch written over a list (`sets` of lib.Seq), and lists that are filled up with one element.
-use mathlib.Core.Path.{_≡_, sym, ap, _∙_}
-use Prim.Native.Nat.{ℕ, zero, suc, _+_, _-_, _≤_}
+use mathlib.Core.Path.{_≡_, refl, sym, ap, _∙_}
+use Prim.Native.Nat.{ℕ, zero, suc, _+_, _-_, _≤_, _<_}
 use native.Mathlib.Nat.{add-zero, zero-add, add-suc, suc-add, sub-zero, zero-sub, suc-sub-suc}
+use native.Mathlib.Numerals.{add-one}
 use native.Mathlib.Omega.{arith}
-use mathlib.Core.List.{List, [], _∷_, _++_, append-assoc}
-use lib.ListN.{length, take, drop, set, replicate, length-append, length-replicate, replicate-append-replicate}
-use lib.Seq.{sets, sets-eq, take-append-seam, drop-append-add}
+use mathlib.Core.List.{List, [], _∷_, _++_, append-assoc, append-nil}
+use lib.ListN.{length, take, drop, getD, set, replicate, length-append, length-drop, length-replicate, drop-of-length-le, take-append-drop, replicate-append-replicate}
+use lib.Seq.{sets, sets-eq, take-suc, take-all, take-append-seam, drop-append-add, length-take-le}
 
 module _ {ℓ} {A : Type ℓ} where
   -- two stretches in turn are written as one
@@ -48,3 +49,28 @@ module _ {ℓ} {A : Type ℓ} where
   fill-take-drop zero n l z = rw zero-add
   fill-take-drop (suc m) n [] z = simp sub-zero (replicate-append-replicate (suc m) n z)
   fill-take-drop (suc m) n (x ∷ l) z = simp (suc-add, suc-sub-suc) (ap (λ (r : List A). x ∷ r) (fill-take-drop m n l z))
+
+  -- a stretch written behind x
+  pub sets-append-add : (x y : List A) (n : ℕ) (v : List A) → sets (x ++ y) (length x + n) v ≡ x ++ sets y n v
+  sets-append-add x y n [] = refl
+  sets-append-add x y n (b ∷ v) = rw (set-append-add, ← add-suc) (sets-append-add x (set y n b) (suc n) v)
+
+  -- one more element copied
+  pub sets-take : (d s : List A) (i : ℕ) (z : A) → i < length s → set (sets d 0 (take i s)) i (getD s i z) ≡ sets d 0 (take (i + 1) s)
+  sets-take d s i z h =
+      let front : length (take i s) ≡ i = length-take-le i s (omega arith) in
+      rw (add-one, take-suc s i z, sets-append d 0 (take i s) (getD s i z ∷ []), zero-add, front)
+
+  -- a list whose part from a on has v written at n: v is written at a + n
+  pub sets-part-at : (a n : ℕ) (l v p : List A) → a ≤ length l → p ≡ sets (take (length l - a) (drop a l)) n v
+      → take a l ++ (p ++ drop (length l - a) (drop a l)) ≡ sets l (a + n) v
+  sets-part-at a n l v p inside e =
+      let all : length (drop a l) ≤ length l - a = omega (arith, length-drop a l) in
+      let part : p ≡ sets (drop a l) n v = e ∙ rw (take-all (length l - a) (drop a l) all) in
+      let whole : sets (take a l ++ drop a l) (length (take a l) + n) v ≡ take a l ++ sets (drop a l) n v = sets-append-add (take a l) (drop a l) n v in
+      rw (part, drop-of-length-le (drop a l) all, append-nil) (sym (rw (take-append-drop, length-take-le a l inside) at whole))
+
+  -- the same, with v written to the part's start
+  pub sets-part : (a : ℕ) (l v p : List A) → a + length v ≤ length l → p ≡ sets (take (length l - a) (drop a l)) 0 v
+      → take a l ++ (p ++ drop (length l - a) (drop a l)) ≡ sets l a v
+  sets-part a l v p fits e = sets-part-at a 0 l v p (omega arith) e ∙ rw add-zero

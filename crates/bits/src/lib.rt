@@ -1,4 +1,4 @@
-// User bits in bytes, lowest first: get one bit, put one bit, put a run of equal bits.
+// User bits in bytes, lowest first: get one bit, put one bit, put a run of equal bits. Bytes copied.
 //
 // A contract says what all bits of the buffer are afterwards; since a list of bytes is determined by its bits
 // (`bitsOf-injective` in proofs/Bits.antt), it determines every byte.
@@ -45,4 +45,24 @@ pub fn put_run(s: &mut [u8], at: usize, n: usize, bit: bool)
         put_bit(s, at + i, bit);
         i += 1;
     }
+}
+
+// The bytes of src go to the start of dst.
+pub fn copy_in(dst: &mut [u8], src: &[u8])
+    requires { ⌜ length (now src) ≤ length (now dst) ⌝ }
+    ensures { λ r. ⌜ now (dst .exit) ≡ sets (now (dst .entry)) 0 (now (src .entry)) ⌝ }
+{
+    let mut i = 0;
+    while i < src.len() {
+        dst[i] = src[i];
+        i += 1;
+    }
+}
+
+// The bytes of src go to dst from byte `at` on.
+pub fn copy_at(dst: &mut [u8], at: usize, src: &[u8])
+    requires { ⌜ at + length (now src) ≤ length (now dst) ⌝ }
+    ensures { λ r. ⌜ now (dst .exit) ≡ sets (now (dst .entry)) at (now (src .entry)) ⌝ }
+{
+    copy_in(&mut dst[at..], src);
 }

@@ -16,6 +16,7 @@ pub mod FramesPass
 pub mod RangeExact
 pub mod Scanned
 pub mod ScanFindsFirst
+pub mod ScanInRange
 pub mod Stepping
 pub mod Turns
 pub mod Cutting

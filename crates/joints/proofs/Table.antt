@@ -10,6 +10,9 @@ use Rattle.packet.specs.Messages.{header, packets, linkOf}
 use Rattle.packet.specs.Packets.{control}
 use Rattle.framing.specs.Machine.{empty, fresh, oneRead, zeroRead, step, run, closes}
 use Rattle.framing.specs.Closings.{closings}
+use Rattle.receiver.specs.Packets.{index}
+use Rattle.receiver.specs.Packets.{control as controlOf}
+use Rattle.receiver.specs.Notices.{lossOf, isCopy, fateOf}
 use Rattle.joints.specs.Joints.{Joints}
 
 pub joints : Joints
@@ -18,6 +21,7 @@ unfolding odd lowBits byteBits bitsOf stuffFrom stuff
     empty fresh oneRead zeroRead step run closes closings
     xor poly divided fcsBit fcsRun preset complement fcsOf lowFirst
     header packets linkOf control
+    index controlOf lossOf isCopy fateOf
 joints =
     record {
       stuff-FF = refl;
@@ -38,4 +42,7 @@ joints =
       packets-16 = refl;
       packets-4094 = refl;
       control-first = refl;
+      last-6-now-0 = refl;
+      last-3-now-2 = refl;
+      last-3-now-3 = refl;
     }

@@ -14,6 +14,9 @@ use Rattle.packet.specs.Messages.{packets, linkOf}
 use Rattle.packet.specs.Packets.{control}
 use Rattle.framing.specs.Machine.{empty, fresh, run}
 use Rattle.framing.specs.Closings.{closings}
+use Rattle.receiver.specs.declared.Slot.{Slot}
+use Rattle.receiver.specs.declared.Fate.the-variants.{Copy}
+use Rattle.receiver.specs.Notices.{lossOf, fateOf}
 
 -- 011111101111110: two flags that share their 0
 abbrev pub sharedZero : List Bool
@@ -28,6 +31,13 @@ noFirstZero = true ∷ true ∷ true ∷ true ∷ true ∷ true ∷ false ∷ []
 -- 31 32 33 34 35 36 37 38 39 hex: the digits 1 to 9
 abbrev pub digits : List ℕ
 digits = 0x31 ∷ 0x32 ∷ 0x33 ∷ 0x34 ∷ 0x35 ∷ 0x36 ∷ 0x37 ∷ 0x38 ∷ 0x39 ∷ []
+
+-- a circuit whose last packet had this index, and a first packet of an empty message with this index
+abbrev pub lastWas : ℕ → Slot
+lastWas n = record { seen = true; last = n; length = 0; place = 0 }
+
+abbrev pub nowIs : ℕ → List ℕ
+nowIs n = 0x01 ∷ control 2 0 n 0 ∷ 0x00 ∷ []
 
 -- the table, in the specification's order
 pub record Joints : Type 0 where
@@ -59,3 +69,7 @@ pub record Joints : Type 0 where
   pub packets-4094 : packets 4094 ≡ 256
   -- "First, no extension, index 5, priority 2: 96 hex": the first of two packets
   pub control-first : control (linkOf 0 2) 0 5 2 ≡ 0x96
+  -- "Last 6, now 0: loss 1; last 3, now 2: loss 6; last 3, now 3: Copy"
+  pub last-6-now-0 : lossOf (lastWas 6) (nowIs 0) ≡ 1
+  pub last-3-now-2 : lossOf (lastWas 3) (nowIs 2) ≡ 6
+  pub last-3-now-3 : fateOf (lastWas 3) (nowIs 3) ≡ Copy

@@ -3,6 +3,7 @@ ghost use mathlib.Core.Path.{_≡_};
 ghost use mathlib.Core.List.{[]};
 ghost use Prim.Native.Nat.{_*_, _≤_, _<_, min};
 ghost use lib.ListN.{length, getD, drop};
+ghost use Rattle.packet.specs.Answers.{answerOf};
 ghost use Rattle.packet.specs.Circuits.{circuitsOf, some-circuit, wrongLength, addressFF, wrongExtension, alike, twoAlike, circuitsRefusal, listRefusal, listed, noCircuit, recordOf, listing};
 ghost use Rattle.packet.specs.Messages.{header, partOf, packets, linkOf};
 ghost use Rattle.packet.specs.Packets.{control};
@@ -340,4 +341,14 @@ pub fn control(link: u8, extended: u8, index: u8, priority: u8) -> u8
 pub enum Answer {
     Accepted,
     Refused(u8),
+}
+
+// The answer that a refusal's number gives.
+pub fn answer_of(refusal: u8) -> Answer
+    ensures { λ r. ⌜ r ≡ answerOf refusal ⌝ }
+{
+    if refusal == 0 {
+        return Answer::Accepted;
+    }
+    Answer::Refused(refusal)
 }

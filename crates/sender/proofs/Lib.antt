@@ -2,7 +2,6 @@
 pub mod Ranges
 pub mod PickingLaws
 pub mod Filling
-pub mod Stores
 pub mod Offers
 pub mod PacketWriting
 pub mod FrameLength

@@ -8,18 +8,7 @@ ghost use Rattle.sender.specs.Record.{fresh, pending, slotInRange, slots
 use super::Listed;
 use super::Sender;
 use super::Slot;
-use packet::Answer;
 use packet::Circuits;
-
-// The answer that a refusal's number gives.
-pub fn answer_of(refusal: u8) -> Answer
-    ensures { λ r. ⌜ r ≡ answerOf refusal ⌝ }
-{
-    if refusal == 0 {
-        return Answer::Accepted;
-    }
-    Answer::Refused(refusal)
-}
 
 // A message of the slot has a copy to place.
 pub fn pending(t: Slot) -> bool
@@ -99,7 +88,7 @@ impl Sender {
         let listing = Circuits::list(bytes);
         let circuits = listing.circuits;
         Listed {
-            answer: answer_of(listing.refusal),
+            answer: packet::answer_of(listing.refusal),
             sender: Sender::fresh(circuits),
         }
     }

@@ -2,7 +2,6 @@
 ghost use mathlib.Core.Path.{_≡_};
 ghost use Prim.Native.Nat.{_≤_, _<_};
 ghost use lib.ListN.{length};
-ghost use lib.Seq.{sets};
 ghost use Rattle.packet.specs.Answers.{answerOf};
 ghost use Rattle.sender.specs.Offering.{offerRefusal, offeredSender, senderAfterOffer, storeAfterOffer};
 use super::Offered;
@@ -10,18 +9,6 @@ use super::Sender;
 use super::Slot;
 use super::listing::pending;
 use packet::Answer;
-
-// The bytes of src go to the start of dst.
-fn copy_in(dst: &mut [u8], src: &[u8])
-    requires { ⌜ length (now src) ≤ length (now dst) ⌝ }
-    ensures { λ r. ⌜ now (dst .exit) ≡ sets (now (dst .entry)) 0 (now (src .entry)) ⌝ }
-{
-    let mut i = 0;
-    while i < src.len() {
-        dst[i] = src[i];
-        i += 1;
-    }
-}
 
 impl Sender {
     // The number of an offer's refusal, 0 if it is accepted.
@@ -107,7 +94,7 @@ impl Sender {
             };
         }
         let start = Sender::REGION * circuit;
-        copy_in(&mut store[start..], message);
+        bits::copy_in(&mut store[start..], message);
         Offered {
             answer: Answer::Accepted,
             sender: self.offered(circuit, priority, repetition, message),

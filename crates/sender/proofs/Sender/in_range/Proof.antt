@@ -1,7 +1,7 @@
 -- `sender::Sender::in_range` meets its contract.
 use borrow.Author.Needs.{needs}
 use Rattle.sender.specs.Record.{inRange}
-use Rattle.sender.proofs.Ranges.{tests}
+use Rattle.bits.proofs.Each.{tests}
 use Rattle.sender.proofs.Sender.in_range.Statement.{statement}
 use Rattle.sender.proofs.Sender.in_range.Tie as tie
 

@@ -8,7 +8,7 @@ use borrow.Author.Needs.{needs}
 use Rattle.sender.specs.Record.{region}
 use Rattle.sender.specs.Offering.{offerRefusal, offeredStore}
 use Rattle.sender.proofs.PickingLaws.{inRange-facts}
-use Rattle.sender.proofs.Stores.{sets-part}
+use Rattle.bits.proofs.Lists.{sets-part}
 use Rattle.sender.proofs.Offers.{offerRefusal-zero, offer-refused, offer-accepted}
 use Rattle.sender.proofs.Sender.offer.Statement.{statement}
 use Rattle.sender.proofs.Sender.offer.Tie as tie

@@ -6,7 +6,7 @@ use mathlib.Core.Path.{_≡_, sym, _∙_}
 use mathlib.Core.Bool.{true}
 use Rattle.sender.specs.Record.{region, storeLength, inRange, slotAt, noSlot}
 use Rattle.sender.specs.Offering.{offerRefusal}
-use Rattle.sender.proofs.Ranges.{tests}
+use Rattle.bits.proofs.Each.{tests}
 use Rattle.sender.proofs.PickingLaws.{inRange-facts, slotInRange-facts, slotInRange-slotAt}
 use Rattle.sender.proofs.Sender.offer_refusal.Statement.{statement}
 use Rattle.sender.proofs.Sender.offer_refusal.Tie as tie

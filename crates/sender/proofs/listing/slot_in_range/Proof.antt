@@ -1,7 +1,7 @@
 -- `sender::listing::slot_in_range` meets its contract: its tests are the definition's.
 use borrow.Author.Needs.{needs}
 use Rattle.sender.specs.Record.{slotInRange}
-use Rattle.sender.proofs.Ranges.{tests}
+use Rattle.bits.proofs.Each.{tests}
 use Rattle.sender.proofs.listing.slot_in_range.Statement.{statement}
 use Rattle.sender.proofs.listing.slot_in_range.Tie as tie
 

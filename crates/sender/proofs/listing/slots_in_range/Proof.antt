@@ -5,7 +5,8 @@ use native.Mathlib.Omega.{arith}
 use lib.ListN.{length, take, drop}
 use borrow.Author.Needs.{needs}
 use Rattle.sender.specs.Record.{noSlot, slotsInRange}
-use Rattle.sender.proofs.Ranges.{slotsInRange-out, slotsInRange-in, slotsInRange-end}
+use Rattle.bits.proofs.Each.{each-out, each-in, each-end}
+use Rattle.sender.proofs.Ranges.{each-slot}
 use Rattle.sender.proofs.listing.slots_in_range.Statement.{statement}
 use Rattle.sender.proofs.listing.slots_in_range.Tie as tie
 
@@ -36,7 +37,7 @@ fits c =
 returns : tie.Need-returns Inv-loop μ-loop
 unfolding noSlot
 returns c =
-    slotsInRange-out (c .before .before .before .before .before .args .t1) _ _
+    each-out each-slot noSlot (c .before .before .before .before .before .args .t1) _ _
     (fits (c .before .before .before .before .before)) (c .before .before .before .before .loop .inv .1) (c .before .before .before .loop-test .taken)
     _ (c .before .slot-in-range .ensures) (c .if1 .taken)
 
@@ -50,13 +51,13 @@ loop-again : tie.Need-loop-again Inv-loop μ-loop
 unfolding noSlot
 loop-again c = (
   omega arith,
-  slotsInRange-in (c .before .before .before .before .before .args .t1) _ _
+  each-in each-slot noSlot (c .before .before .before .before .before .args .t1) _ _
       (fits (c .before .before .before .before .before)) (c .before .before .before .before .loop .inv .1) (c .before .before .before .loop-test .taken)
       _ (c .before .slot-in-range .ensures) (c .if1 .left),
 )
 
 returns-2 : tie.Need-returns-2 Inv-loop μ-loop
-returns-2 c = slotsInRange-end _ _ _ (fits (c .before .before)) (c .before .loop .inv .1) (c .loop-test .left)
+returns-2 c = each-end each-slot noSlot _ _ _ (fits (c .before .before)) (c .before .loop .inv .1) (c .loop-test .left)
 
 pub slots-in-range-spec : {M : Type 1} → statement M
 slots-in-range-spec =

@@ -1,12 +1,12 @@
--- `sender::offering::copy_in` meets its contract. The loop's invariant: the first i bytes are copied.
+-- `bits::copy_in` meets its contract. The loop's invariant: the first i bytes are copied.
 use mathlib.Core.Path.{_≡_, refl, ap, _∙_}
 use Prim.Native.Nat.{_≤_, _-_}
 use native.Mathlib.Omega.{arith}
 use lib.ListN.{length, take}
 use lib.Seq.{sets, length-sets, take-all}
-use Rattle.sender.proofs.Stores.{sets-take}
-use Rattle.sender.proofs.offering.copy_in.Statement.{statement}
-use Rattle.sender.proofs.offering.copy_in.Tie as tie
+use Rattle.bits.proofs.Lists.{sets-take}
+use Rattle.bits.proofs.copy_in.Statement.{statement}
+use Rattle.bits.proofs.copy_in.Tie as tie
 
 abbrev Inv-loop : tie.InvT-loop
 Inv-loop dst₀ src i₀ dst i = (i ≤ length src) × (dst ≡ sets dst₀ 0 (take i src))

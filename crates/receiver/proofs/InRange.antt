@@ -1,0 +1,193 @@
+-- Calls leave receivers in range: a fresh one is, and so is what a packet or a read leaves. So no reading call is refused with 14 whose receiver comes
+-- from a listing and reading calls.
+use Prim.Native.Nat.{ℕ, _*_, _<_}
+use mathlib.Core.Bool.{Bool, true, false, cond, _&&_, _||_}
+use mathlib.Core.List.{List, [], _∷_}
+use mathlib.Core.Option.{Option, none, some}
+use mathlib.Core.Path.{_≡_, refl}
+use native.Mathlib.Omega.{arith}
+use lib.ListN.{length, take}
+use lib.Seq.{slice}
+use lib.Dec.{leb, ltb, eqb}
+use borrow.Author.Tests.{le-leb, eq-eqb}
+use Rattle.bits.specs.Bits.{bitsOf, Bytes}
+use Rattle.bits.proofs.Bits.{Bytes-take}
+use Rattle.bits.proofs.Tests.{and-left, and-right}
+use Rattle.packet.specs.Circuits.{circuitsRefusal, listed, listing}
+use Rattle.packet.proofs.CircuitLists.{listing-count, listing-refusal}
+use Rattle.framing.specs.declared.Framing.{Framing}
+use Rattle.framing.specs.declared.Check.{Check}
+use Rattle.framing.specs.declared.Check.the-variants.{Packet, Spoilt, Nothing}
+use Rattle.framing.specs.declared.Scan.{Scan}
+use Rattle.framing.specs.Range.{inRange as framingInRange}
+use Rattle.framing.proofs.ScanInRange.{Array21, Array21-fresh, Arrays, Arrays-scan, scan-in-range}
+use Rattle.framing.proofs.ScanInRange.{fresh-in-range as framing-fresh-in-range}
+use Rattle.receiver.specs.declared.Slot.{Slot}
+use Rattle.receiver.specs.declared.Receiver.{Receiver}
+use Rattle.receiver.specs.Record.{storeLength, fresh, slotAt, slotInRange, slotsInRange, inRange}
+use Rattle.receiver.specs.Packets.{address, circuitIn, malformed, numberFrom}
+use Rattle.receiver.specs.Notices.{Heard, withSlot, heardAt, heardBy, systemHeard, heard}
+use Rattle.receiver.specs.Reading.{withFraming, noticed, readBy, readScan, readRefusal, receiverAfterRead}
+use Rattle.receiver.proofs.SlotsInRange.{cond-either, replicate-slotsInRange, getD-slotsInRange, set-slotsInRange, slotAfter-in-range}
+
+-- a record in range, by its parts
+record Parts (r : Receiver) : Type 0 where
+  count : leb (r .circuits .count) 4 ≡ true
+  circuits : eqb (circuitsRefusal (listed (r .circuits))) 0 ≡ true
+  slots : slotsInRange (take (r .circuits .count) (r .slots)) ≡ true
+  framing : framingInRange (r .framing) ≡ true
+
+inRange-parts : (r : Receiver) → inRange r ≡ true → Parts r
+unfolding inRange
+inRange-parts r e =
+    let a : Bool = leb (r .circuits .count) 4 in
+    let b : Bool = eqb (circuitsRefusal (listed (r .circuits))) 0 in
+    let c : Bool = slotsInRange (take (r .circuits .count) (r .slots)) in
+    let d : Bool = framingInRange (r .framing) in
+    let abc = and-left (a && b && c) d e in
+    let ab = and-left (a && b) c abc in
+    record { count = and-left a b ab; circuits = and-right a b ab; slots = and-right (a && b) c abc; framing = and-right (a && b && c) d e }
+
+parts-inRange : (r : Receiver) → Parts r → inRange r ≡ true
+unfolding inRange
+parts-inRange r h = rw (h .count, h .circuits, h .slots, h .framing)
+
+-- ---- a fresh receiver
+
+pub fresh-in-range : (bytes : List ℕ) → inRange (fresh (listing bytes)) ≡ true
+unfolding fresh
+fresh-in-range bytes =
+    parts-inRange (fresh (listing bytes))
+    (record {
+      count = le-leb (listing bytes .count) 4 (listing-count bytes);
+      circuits = eq-eqb (circuitsRefusal (listed (listing bytes))) 0 (listing-refusal bytes);
+      slots = replicate-slotsInRange (listing bytes .count) 4;
+      framing = framing-fresh-in-range;
+    })
+
+-- ---- a packet
+
+-- another slot
+withSlot-in-range : (r : Receiver) (c : ℕ) (u : Slot) → (c < r .circuits .count → slotInRange u ≡ true) → inRange r ≡ true
+    → inRange (withSlot r c u) ≡ true
+unfolding withSlot
+withSlot-in-range r c u h e =
+    let k = inRange-parts r e in
+    parts-inRange (withSlot r c u)
+    (record {
+      count = k .count;
+      circuits = k .circuits;
+      slots = set-slotsInRange (r .circuits .count) (r .slots) c u h (k .slots);
+      framing = k .framing;
+    })
+
+heardBy-in-range : (n : Option ℕ) (r : Receiver) (store p : List ℕ) → Bytes p → inRange r ≡ true
+    → inRange (heardBy n r store p .receiver) ≡ true
+unfolding heardBy heardAt slotAt
+heardBy-in-range none r store p b e = e
+heardBy-in-range (some c) r store p b e =
+    withSlot-in-range r c _
+    (λ h. slotAfter-in-range (slotAt r c) p b (getD-slotsInRange (r .circuits .count) (r .slots) c h (inRange-parts r e .slots))) e
+
+pub heard-in-range : (r : Receiver) (store p : List ℕ) → Bytes p → inRange r ≡ true → inRange (heard r store p .receiver) ≡ true
+unfolding heard systemHeard
+heard-in-range r store p b e =
+    cond-either (λ (h : Heard). inRange (h .receiver) ≡ true) (malformed p) _ _ (λ _. e)
+    (λ _. cond-either (λ (h : Heard). inRange (h .receiver) ≡ true) (eqb (address p) 0xff) _ _ (λ _. e)
+    (λ _. heardBy-in-range (numberFrom (listed (r .circuits)) (circuitIn p) 0) r store p b e))
+
+-- a packet does not change the framing
+heardBy-framing : (n : Option ℕ) (r : Receiver) (store p : List ℕ) → heardBy n r store p .receiver .framing ≡ r .framing
+unfolding heardBy heardAt withSlot
+heardBy-framing none r store p = refl
+heardBy-framing (some c) r store p = refl
+
+pub heard-framing : (r : Receiver) (store p : List ℕ) → heard r store p .receiver .framing ≡ r .framing
+unfolding heard systemHeard
+heard-framing r store p =
+    cond-either (λ (h : Heard). h .receiver .framing ≡ r .framing) (malformed p) _ _ (λ _. refl)
+    (λ _. cond-either (λ (h : Heard). h .receiver .framing ≡ r .framing) (eqb (address p) 0xff) _ _ (λ _. refl)
+    (λ _. heardBy-framing (numberFrom (listed (r .circuits)) (circuitIn p) 0) r store p))
+
+-- ---- a reading call
+
+-- another framing
+withFraming-in-range : (r : Receiver) (f : Framing) → framingInRange f ≡ true → inRange r ≡ true → inRange (withFraming r f) ≡ true
+unfolding withFraming
+withFraming-in-range r f h e =
+    let k = inRange-parts r e in
+    parts-inRange (withFraming r f) (record { count = k .count; circuits = k .circuits; slots = k .slots; framing = h })
+
+noticed-in-range : (c : Check) (bytes : List ℕ) (r : Receiver) (store : List ℕ) → Bytes bytes → inRange r ≡ true
+    → inRange (noticed c bytes r store .receiver) ≡ true
+unfolding noticed
+noticed-in-range (Packet n) bytes r store b e = heard-in-range r store (take n bytes) (Bytes-take n bytes b) e
+noticed-in-range Spoilt bytes r store b e = e
+noticed-in-range Nothing bytes r store b e = e
+
+noticed-framing : (c : Check) (bytes : List ℕ) (r : Receiver) (store : List ℕ) → noticed c bytes r store .receiver .framing ≡ r .framing
+unfolding noticed
+noticed-framing (Packet n) bytes r store = heard-framing r store (take n bytes)
+noticed-framing Spoilt bytes r store = refl
+noticed-framing Nothing bytes r store = refl
+
+module _ (r : Receiver) (store bytes : List ℕ) (from to : ℕ) (h : Array21 (r .framing .bits)) where
+  arrays : Arrays (readScan r bytes from to)
+  unfolding readScan
+  arrays = Arrays-scan (slice from to (bitsOf bytes)) (r .framing) from h
+
+  pub read-in-range : inRange r ≡ true → inRange (receiverAfterRead r store bytes from to) ≡ true
+  unfolding receiverAfterRead readBy readScan
+  read-in-range e =
+      let s : Scan = readScan r bytes from to in
+      cond-either (λ (q : Receiver). inRange q ≡ true) (eqb (readRefusal r store bytes from to) 0) _ _
+      (λ _. noticed-in-range (s .check) (s .bytes) (withFraming r (s .framing)) store (arrays .told .each)
+      (withFraming-in-range r (s .framing) (scan-in-range (slice from to (bitsOf bytes)) (r .framing) from h (inRange-parts r e .framing)) e))
+      (λ _. e)
+
+  -- and its framing's bits stand in 21 bytes again
+  pub read-array : Array21 (receiverAfterRead r store bytes from to .framing .bits)
+  unfolding receiverAfterRead readBy withFraming
+  read-array =
+      let s : Scan = readScan r bytes from to in
+      cond-either (λ (q : Receiver). Array21 (q .framing .bits)) (eqb (readRefusal r store bytes from to) 0) _ _
+      (λ _. rw (noticed-framing (s .check) (s .bytes) (withFraming r (s .framing)) store) (arrays .left))
+      (λ _. h)
+
+-- ---- reading calls from a listing on
+
+pub record ReadCall : Type 0 where
+  pub store : List ℕ
+  pub bytes : List ℕ
+  pub from : ℕ
+  pub to : ℕ
+
+-- the receiver that reading calls leave, each with bytes and a store of its own
+unfoldable pub afterReads : Receiver → List ReadCall → Receiver
+afterReads r [] = r
+afterReads r (c ∷ cs) = afterReads (receiverAfterRead r (c .store) (c .bytes) (c .from) (c .to)) cs
+
+pub reads-in-range : (cs : List ReadCall) (r : Receiver) → Array21 (r .framing .bits) → inRange r ≡ true → inRange (afterReads r cs) ≡ true
+unfolding afterReads
+reads-in-range [] r h e = e
+reads-in-range (c ∷ cs) r h e =
+    reads-in-range cs (receiverAfterRead r (c .store) (c .bytes) (c .from) (c .to))
+    (read-array r (c .store) (c .bytes) (c .from) (c .to) h) (read-in-range r (c .store) (c .bytes) (c .from) (c .to) h e)
+
+-- no record that calls made is refused with 14
+in-range-not-14 : (r : Receiver) (store bytes : List ℕ) (from to : ℕ) → inRange r ≡ true → readRefusal r store bytes from to ≡ 14 → ⊥
+unfolding readRefusal
+in-range-not-14 r store bytes from to e h =
+    go (ltb (length store) storeLength) (ltb to from || ltb (8 * length bytes) to) (rw e at h)
+  where
+    go : (a b : Bool) → _≡_ {A = ℕ} (cond a 5 (cond b 15 0)) 14 → ⊥
+    go true b k = omega arith
+    go false true k = omega arith
+    go false false k = omega arith
+
+pub never-14 : (list : List ℕ) (calls : List ReadCall) (store bytes : List ℕ) (from to : ℕ)
+    → readRefusal (afterReads (fresh (listing list)) calls) store bytes from to ≡ 14 → ⊥
+unfolding fresh
+never-14 list calls store bytes from to =
+    in-range-not-14 (afterReads (fresh (listing list)) calls) store bytes from to
+    (reads-in-range calls (fresh (listing list)) Array21-fresh (fresh-in-range list))

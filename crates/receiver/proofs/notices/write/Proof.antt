@@ -1,0 +1,70 @@
+-- `receiver::notices::write` meets its contract.
+use mathlib.Core.Path.{refl}
+use Rattle.receiver.specs.Notices.{storeAfter}
+use Rattle.receiver.proofs.Stores.{storeAfter-is}
+use borrow.Author.Needs.{needs}
+use Rattle.receiver.proofs.notices.write.Statement.{statement}
+use Rattle.receiver.proofs.notices.write.Tie as tie
+
+enum-told : tie.Need-enum-told
+enum-told c = search needs
+
+write-part-requires : tie.Need-write-part-requires
+write-part-requires c κs = c .before .before .before .before .before .pre
+
+enum-told-2 : tie.Need-enum-told-2
+enum-told-2 c = search needs
+
+write-part-requires-2 : tie.Need-write-part-requires-2
+write-part-requires-2 c κs = c .before .before .before .before .before .pre
+
+enum-told-3 : tie.Need-enum-told-3
+enum-told-3 c = search needs
+
+write-part-requires-3 : tie.Need-write-part-requires-3
+write-part-requires-3 c κs = c .before .before .before .before .before .pre
+
+enum-told-4 : tie.Need-enum-told-4
+enum-told-4 c = search needs
+
+enum-told-5 : tie.Need-enum-told-5
+enum-told-5 c = search needs
+
+enum-told-6 : tie.Need-enum-told-6
+enum-told-6 c = search needs
+
+same-length : tie.Need-same-length
+same-length c = search needs
+
+returns : tie.Need-returns
+unfolding storeAfter
+returns c = storeAfter-is _ _ _ _ _ _ _ (c .before .before .before .before .enum-told .given .1) (c .before .before .write-part .ensures)
+
+same-length-2 : tie.Need-same-length-2
+same-length-2 c = search needs
+
+returns-2 : tie.Need-returns-2
+unfolding storeAfter
+returns-2 c = storeAfter-is _ _ _ _ _ _ _ (c .before .before .before .before .enum-told2 .given .1) (c .before .before .write-part2 .ensures)
+
+same-length-3 : tie.Need-same-length-3
+same-length-3 c = search needs
+
+returns-3 : tie.Need-returns-3
+unfolding storeAfter
+returns-3 c = storeAfter-is _ _ _ _ _ _ _ (c .before .before .before .before .enum-told3 .given .1) (c .before .before .write-part3 .ensures)
+
+returns-4 : tie.Need-returns-4
+unfolding storeAfter
+returns-4 c = storeAfter-is _ _ _ _ _ _ _ (c .enum-told4 .given .1) refl
+
+returns-5 : tie.Need-returns-5
+unfolding storeAfter
+returns-5 c = storeAfter-is _ _ _ _ _ _ _ (c .enum-told5 .given .1) refl
+
+returns-6 : tie.Need-returns-6
+unfolding storeAfter
+returns-6 c = storeAfter-is _ _ _ _ _ _ _ (c .enum-told6 .given .1) refl
+
+pub write-spec : {M : Type 1} → statement M
+write-spec = tie.close (tie.spec enum-told write-part-requires enum-told-2 write-part-requires-2 enum-told-3 write-part-requires-3 enum-told-4 enum-told-5 enum-told-6 same-length returns same-length-2 returns-2 same-length-3 returns-3 returns-4 returns-5 returns-6)

@@ -1,0 +1,38 @@
+-- `receiver::notices::write_part` meets its contract: the region is lent on as a part of the store.
+use native.Mathlib.Omega.{arith}
+use lib.ListN.{length-take, length-drop}
+use Rattle.receiver.proofs.Fates.{messagePart-fits}
+use Rattle.receiver.proofs.Stores.{placeOf-most, sets-region}
+use borrow.Author.Needs.{needs}
+use Rattle.receiver.proofs.notices.write_part.Statement.{statement}
+use Rattle.receiver.proofs.notices.write_part.Tie as tie
+
+mul-start : tie.Need-mul-start
+mul-start c = omega (arith, c .before .before .pre .0)
+
+place-of-requires : tie.Need-place-of-requires
+place-of-requires c κs = c .before .before .pre .3
+
+part-of-requires : tie.Need-part-of-requires
+part-of-requires c κs = (c .before .before .before .pre .3, c .before .before .before .pre .4)
+
+sub-copy-at : tie.Need-sub-copy-at
+sub-copy-at c = omega (arith, c .before .before .before .before .pre .0, c .before .before .before .before .pre .2)
+
+part-copy-at-start : tie.Need-part-copy-at-start
+part-copy-at-start c = omega (arith, c .before .before .before .before .pre .0, c .before .before .before .before .pre .2)
+
+part-copy-at-end : tie.Need-part-copy-at-end
+part-copy-at-end c = search needs
+
+copy-at-requires : tie.Need-copy-at-requires
+copy-at-requires c κs = simp (length-take, length-drop) (omega (arith, c .before .before .before .before .before .pre .0, c .before .before .before .before .before .pre .2, c .before .before .place-of .ensures, placeOf-most (c .before .before .before .before .before .args .t) (c .before .before .before .before .before .args .p .now) (c .before .before .before .before .before .pre .1), messagePart-fits _ _ (c .before .part-of .ensures) (c .before .before .before .before .before .pre .4) (c .before .before .before .before .before .pre .5)))
+
+same-length : tie.Need-same-length
+same-length c = search needs
+
+returns : tie.Need-returns
+returns c = sets-region (c .before .before .before .before .before .before .before .before .args .t) _ (c .before .before .before .before .before .before .before .before .args .circuit) _ (c .before .before .before .before .before .before .before .before .args .store .now) _ _ (c .before .before .before .before .before .place-of .ensures) (c .before .before .before .before .part-of .ensures) (omega (arith, c .before .before .before .before .before .before .before .before .pre .0, c .before .before .before .before .before .before .before .before .pre .2)) (c .before .before .copy-at .ensures)
+
+pub write-part-spec : {M : Type 1} → statement M
+write-part-spec = tie.close (tie.spec mul-start place-of-requires part-of-requires sub-copy-at part-copy-at-start part-copy-at-end copy-at-requires same-length returns)

@@ -1,0 +1,15 @@
+-- `receiver::packets::extended_of` meets its contract. Assumes nothing.
+use borrow.Author.Needs.{needs}
+use Rattle.receiver.specs.Packets.{extended, control}
+use Rattle.receiver.proofs.packets.extended_of.Statement.{statement}
+use Rattle.receiver.proofs.packets.extended_of.Tie as tie
+
+shared-slice-read-result : tie.Need-shared-slice-read-result
+shared-slice-read-result c = search needs
+
+returns : tie.Need-returns
+unfolding extended control
+returns c = search needs
+
+pub extended-of-spec : {M : Type 1} → statement M
+extended-of-spec = tie.close (tie.spec shared-slice-read-result returns)

@@ -1,0 +1,56 @@
+-- Reading (document 01, "Notices" and "Calls and their refusals"): "A read goes bit by bit and stops after the first notice, or at the end with End. It
+-- returns record, notice and bits read."
+use Prim.Native.Nat.{ℕ, _-_, _*_}
+use mathlib.Core.Bool.{false, cond, not, _||_}
+use mathlib.Core.List.{List}
+use lib.ListN.{length, take}
+use lib.Seq.{slice}
+use lib.Dec.{ltb, eqb}
+use Rattle.bits.specs.Bits.{bitsOf}
+use Rattle.framing.specs.declared.Framing.{Framing}
+use Rattle.framing.specs.declared.Check.{Check}
+use Rattle.framing.specs.declared.Check.the-variants.{Packet, Nothing}
+use Rattle.framing.specs.declared.Check.the-variants.{Spoilt as SpoiltBody}
+use Rattle.framing.specs.declared.Scan.{Scan}
+use Rattle.framing.specs.Scanning.{scan}
+use Rattle.receiver.specs.declared.Receiver.{Receiver}
+use Rattle.receiver.specs.declared.Notice.the-variants.{End, Spoilt}
+use Rattle.receiver.specs.Record.{storeLength, inRange}
+use Rattle.receiver.specs.Notices.{Heard, heard}
+
+-- the record with another framing
+unfoldable pub withFraming : Receiver → Framing → Receiver
+withFraming r f = record { circuits = r .circuits; slots = r .slots; framing = f }
+
+-- "Each body that passes gives one notice; one that does not, and unstuffs to 32 bits or more, gives Spoilt. Others, void ones too, give none"
+unfoldable pub noticed : Check → List ℕ → Receiver → List ℕ → Heard
+noticed (Packet n) bytes r store = heard r store (take n bytes)
+noticed SpoiltBody bytes r store = record { receiver = r; store = store; notice = Spoilt; first = false }
+noticed Nothing bytes r store = record { receiver = r; store = store; notice = End; first = false }
+
+-- what a scan of bits leaves and tells
+unfoldable pub readBy : Scan → Receiver → List ℕ → Heard
+readBy s r store = noticed (s .check) (s .bytes) (withFraming r (s .framing)) store
+
+-- the scan of a reading call
+unfoldable pub readScan : Receiver → List ℕ → ℕ → ℕ → Scan
+readScan r bytes from to = scan (r .framing) from (slice from to (bitsOf bytes))
+
+-- "Reading (from bit, to bit): 14; 5; 15 from above to, or to past the bytes lent"; 0 if it is accepted
+unfoldable pub readRefusal : Receiver → List ℕ → List ℕ → ℕ → ℕ → ℕ
+readRefusal r store bytes from to =
+    cond (not (inRange r)) 14
+    (cond (ltb (length store) storeLength) 5
+    (cond (ltb to from || ltb (8 * length bytes) to) 15 0))
+
+-- "All refusals return .. the record given, and leave every lent byte unchanged"; "These stop at no bit read"
+unfoldable pub receiverAfterRead : Receiver → List ℕ → List ℕ → ℕ → ℕ → Receiver
+receiverAfterRead r store bytes from to =
+    cond (eqb (readRefusal r store bytes from to) 0) (readBy (readScan r bytes from to) r store .receiver) r
+
+unfoldable pub storeAfterRead : Receiver → List ℕ → List ℕ → ℕ → ℕ → List ℕ
+storeAfterRead r store bytes from to =
+    cond (eqb (readRefusal r store bytes from to) 0) (readBy (readScan r bytes from to) r store .store) store
+
+unfoldable pub bitsRead : Receiver → List ℕ → List ℕ → ℕ → ℕ → ℕ
+bitsRead r store bytes from to = cond (eqb (readRefusal r store bytes from to) 0) (readScan r bytes from to .at - from) 0
