@@ -20,7 +20,7 @@ use Rattle.receiver.proofs.PacketParts.{index-le, length-segment}
 -- what is known of a slot in range
 pub record SlotFacts (t : Slot) : Type 0 where
   pub last : t .last ≤ 7
-  pub length : t .length ≤ 4094
+  pub short : t .length ≤ 4094
   pub place : t .place ≤ t .length
 
 pub slotInRange-facts : (t : Slot) → slotInRange t ≡ true → SlotFacts t
@@ -29,7 +29,7 @@ slotInRange-facts t e =
     let two = and-left (leb (t .last) 7 && leb (t .length) 4094) _ e in
     record {
       last = leb-true _ _ (and-left (leb (t .last) 7) _ two);
-      length = leb-true _ _ (and-right (leb (t .last) 7) _ two);
+      short = leb-true _ _ (and-right (leb (t .last) 7) _ two);
       place = leb-true _ _ (and-right (leb (t .last) 7 && leb (t .length) 4094) _ e);
     }
 

@@ -32,7 +32,7 @@ module _ (t : Slot) (p : List ℕ) where
     where
       go : (b : Bool) → cond b 0 (t .place) ≤ 4094
       go true = omega arith
-      go false = let f = slotInRange-facts t e in omega (arith, f .length, f .place)
+      go false = let f = slotInRange-facts t e in omega (arith, f .short, f .place)
 
   -- the region is lent on, and the message bytes are written in it
   pub sets-region : (c at : ℕ) (store v q : List ℕ) → at ≡ placeOf t p → v ≡ messagePart p → 4096 * c ≤ length store

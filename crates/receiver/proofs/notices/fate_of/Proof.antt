@@ -24,10 +24,10 @@ first-fate-requires : tie.Need-first-fate-requires
 first-fate-requires c κs = segment-fits _ _ (c .before .before .before .segment-of .ensures) (c .before .before .before .before .before .before .before .pre .2) (c .before .before .before .before .before .before .before .pre .3) .0
 
 between-fate-requires : tie.Need-between-fate-requires
-between-fate-requires c κs = let f = slotInRange-facts _ (c .before .before .before .before .before .before .before .before .pre .0) in omega (arith, f .length, f .place)
+between-fate-requires c κs = let f = slotInRange-facts _ (c .before .before .before .before .before .before .before .before .pre .0) in omega (arith, f .short, f .place)
 
 last-fate-requires : tie.Need-last-fate-requires
-last-fate-requires c κs = let f = slotInRange-facts _ (c .before .before .before .before .before .before .before .before .pre .0) in (omega (arith, f .length, f .place), segment-fits _ _ (c .before .before .before .before .segment-of .ensures) (c .before .before .before .before .before .before .before .before .pre .2) (c .before .before .before .before .before .before .before .before .pre .3) .1)
+last-fate-requires c κs = let f = slotInRange-facts _ (c .before .before .before .before .before .before .before .before .pre .0) in (omega (arith, f .short, f .place), segment-fits _ _ (c .before .before .before .before .segment-of .ensures) (c .before .before .before .before .before .before .before .before .pre .2) (c .before .before .before .before .before .before .before .before .pre .3) .1)
 
 returns-2 : tie.Need-returns-2
 returns-2 c = c .first-fate .ensures ∙ fateOf-first _ _ _ (c .before .before .before .before .before .before .is-copy .ensures) (c .before .before .before .before .before .if1 .left) _ (c .before .before .before .link-of .ensures) _ (c .before .before .still-open .ensures) _ (c .before .before .before .before .segment-of .ensures) (c .before .match .keys1)

@@ -23,7 +23,7 @@ index-of-requires : tie.Need-index-of-requires
 index-of-requires c κs = c .before .before .before .pre .1
 
 add-t6 : tie.Need-add-t6
-add-t6 c = let f = slotInRange-facts _ (c .before .before .before .before .before .pre .0) in omega (arith, f .length, f .place)
+add-t6 c = let f = slotInRange-facts _ (c .before .before .before .before .before .pre .0) in omega (arith, f .short, f .place)
 
 enum-told-4 : tie.Need-enum-told-4
 enum-told-4 c = search needs
