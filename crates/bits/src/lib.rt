@@ -52,10 +52,10 @@ pub fn copy_in(dst: &mut [u8], src: &[u8])
     requires { ⌜ length (now src) ≤ length (now dst) ⌝ }
     ensures { λ r. ⌜ now (dst .exit) ≡ sets (now (dst .entry)) 0 (now (src .entry)) ⌝ }
 {
-    let mut i = 0;
-    while i < src.len() {
-        dst[i] = src[i];
-        i += 1;
+    let mut k = 0;
+    while k < src.len() {
+        dst[k] = src[k];
+        k += 1;
     }
 }
 

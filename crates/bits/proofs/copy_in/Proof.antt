@@ -1,4 +1,4 @@
--- `bits::copy_in` meets its contract. The loop's invariant: the first i bytes are copied.
+-- `bits::copy_in` meets its contract. The loop's invariant: the first k bytes are copied.
 use mathlib.Core.Path.{_≡_, refl, ap, _∙_}
 use Prim.Native.Nat.{_≤_, _-_}
 use native.Mathlib.Omega.{arith}
@@ -9,10 +9,10 @@ use Rattle.bits.proofs.copy_in.Statement.{statement}
 use Rattle.bits.proofs.copy_in.Tie as tie
 
 abbrev Inv-loop : tie.InvT-loop
-Inv-loop dst₀ src i₀ dst i = (i ≤ length src) × (dst ≡ sets dst₀ 0 (take i src))
+Inv-loop dst₀ src k₀ dst k = (k ≤ length src) × (dst ≡ sets dst₀ 0 (take k src))
 
 abbrev μ-loop : tie.MeasureT-loop
-μ-loop dst₀ src i₀ dst i = length src - i
+μ-loop dst₀ src k₀ dst k = length src - k
 
 loop-holds : tie.Need-loop-holds Inv-loop μ-loop
 loop-holds c = (omega arith, refl)
@@ -23,8 +23,8 @@ shared-slice-read-dst c = omega arith
 slice-write-dst : tie.Need-slice-write-dst Inv-loop μ-loop
 slice-write-dst c = rw (c .before .before .loop .inv .1, length-sets) (omega arith)
 
-add-i : tie.Need-add-i Inv-loop μ-loop
-add-i c = omega arith
+add-k : tie.Need-add-k Inv-loop μ-loop
+add-k c = omega arith
 
 loop-less : tie.Need-loop-less Inv-loop μ-loop
 loop-less c = omega arith
@@ -47,7 +47,7 @@ copy-in-spec =
     loop-holds
     shared-slice-read-dst
     slice-write-dst
-    add-i
+    add-k
     loop-less
     loop-again
     same-length
