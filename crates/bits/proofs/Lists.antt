@@ -6,7 +6,7 @@ use native.Mathlib.Numerals.{add-one}
 use native.Mathlib.Omega.{arith}
 use mathlib.Core.List.{List, [], _∷_, _++_, append-assoc, append-nil}
 use lib.ListN.{length, take, drop, getD, set, replicate, length-append, length-drop, length-replicate, drop-of-length-le, take-append-drop, replicate-append-replicate}
-use lib.Seq.{sets, sets-eq, take-suc, take-all, take-append-seam, drop-append-add, length-take-le}
+use lib.Seq.{sets, sets-eq, take-set-le, take-set-lt, drop-set-lt, drop-set-add, take-suc, take-all, take-append-seam, drop-append-add, length-take-le}
 
 module _ {ℓ} {A : Type ℓ} where
   -- two stretches in turn are written as one
@@ -74,3 +74,20 @@ module _ {ℓ} {A : Type ℓ} where
   pub sets-part : (a : ℕ) (l v p : List A) → a + length v ≤ length l → p ≡ sets (take (length l - a) (drop a l)) 0 v
       → take a l ++ (p ++ drop (length l - a) (drop a l)) ≡ sets l a v
   sets-part a l v p fits e = sets-part-at a 0 l v p (omega arith) e ∙ rw add-zero
+
+  -- a stretch lies before what is dropped, behind what is taken, within it, or behind what is dropped
+  pub drop-sets-before : (v : List A) (n : ℕ) (l : List A) (i : ℕ) → i + length v ≤ n → drop n (sets l i v) ≡ drop n l
+  drop-sets-before [] n l i h = refl
+  drop-sets-before (a ∷ v) n l i h = drop-sets-before v n (set l i a) (suc i) (omega arith) ∙ drop-set-lt n l i a (omega arith)
+
+  pub take-sets-behind : (v : List A) (m : ℕ) (l : List A) (i : ℕ) → m ≤ i → take m (sets l i v) ≡ take m l
+  take-sets-behind [] m l i h = refl
+  take-sets-behind (a ∷ v) m l i h = take-sets-behind v m (set l i a) (suc i) (omega arith) ∙ take-set-le m l i a h
+
+  pub take-sets-inside : (v : List A) (m : ℕ) (l : List A) (i : ℕ) → i + length v ≤ m → take m (sets l i v) ≡ sets (take m l) i v
+  take-sets-inside [] m l i h = refl
+  take-sets-inside (a ∷ v) m l i h = take-sets-inside v m (set l i a) (suc i) (omega arith) ∙ rw (take-set-lt m l i a (omega arith))
+
+  pub drop-sets-add : (v : List A) (n : ℕ) (l : List A) (i : ℕ) → drop n (sets l (n + i) v) ≡ sets (drop n l) i v
+  drop-sets-add [] n l i = refl
+  drop-sets-add (a ∷ v) n l i = rw (← add-suc n i, ← drop-set-add n l i a) (drop-sets-add v n (set l (n + i) a) (suc i))

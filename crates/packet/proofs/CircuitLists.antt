@@ -3,25 +3,17 @@
 use Prim.Native.Nat.{ℕ, zero, suc, _+_, _*_, _≤_, _<_, min}
 use native.Mathlib.Numerals.{add-one}
 use native.Mathlib.Omega.{arith}
-use mathlib.Core.Bool.{Bool, true, false, cond, not, _||_}
+use mathlib.Core.Bool.{Bool, true, false, cond, not, _&&_, _||_, and-eq-true-iff}
 use mathlib.Core.List.{List, [], _∷_, _++_}
 use mathlib.Core.Path.{_≡_, refl, _∙_}
-use borrow.Author.Tests.{ltb-false, ne-eqb, eqb-true, eqb-false}
+use borrow.Author.Tests.{ltb-false, eq-eqb, ne-eqb, eqb-true, eqb-false}
 use lib.Dec.{ltb, eqb}
 use lib.ListN.{length, take, drop, getD, set, replicate, length-take, length-drop, drop-of-length-le}
 use lib.Seq.{sets, drop-cons, take-append-seam, getD-take, take-take}
+use Rattle.bits.proofs.Tests.{or-left, or-right}
 use Rattle.packet.specs.declared.Circuit.{Circuit}
 use Rattle.packet.specs.declared.Circuits.{Circuits}
 use Rattle.packet.specs.Circuits.{circuitsOf, some-circuit, wrongLength, addressFF, wrongExtension, alike, twoAlike, circuitsRefusal, listRefusal, listed, noCircuit, recordOf, listing}
-
--- neither of two tests passed
-or-left : (a b : Bool) → (a || b) ≡ false → a ≡ false
-or-left false b e = refl
-or-left true b e = e
-
-or-right : (a b : Bool) → (a || b) ≡ false → b ≡ false
-or-right false b e = e
-or-right true b e = absurd (let z : _≡_ {A = ℕ} 0 1 = cc in omega arith)
 
 -- what is left of the first n of a list from place i on: it begins with the element at i, and is empty from its end on
 module _ {ℓ} {A : Type ℓ} where
@@ -145,6 +137,25 @@ Stored-end bs list i short end stored =
     let few : length (circuitsOf bs) ≤ 4 = omega (arith, length-circuitsOf bs) in
     let same : list ≡ sets (replicate 4 noCircuit) 0 (circuitsOf bs) = rw none at (stored .1) in
     circuits-eq i (length (circuitsOf bs)) list (recordOf (circuitsOf bs) .list) all (same ∙ recordOf-list (circuitsOf bs) few)
+
+-- ---- circuits that are alike
+
+pub alike-is : (a b : Circuit) → alike a b ≡ true → a ≡ b
+unfolding alike
+alike-is a b e =
+    let (f, z) = and-eq-true-iff (eqb (a .address) (b .address) && eqb (a .extended) (b .extended)) _ .0 e in
+    let (x, y) = and-eq-true-iff (eqb (a .address) (b .address)) _ .0 f in
+    let address : a .address ≡ b .address = eqb-true _ _ x in
+    let extended : a .extended ≡ b .extended = eqb-true _ _ y in
+    let extension : a .extension ≡ b .extension = eqb-true _ _ z in
+    λ i. record { address = address i; extended = extended i; extension = extension i }
+
+pub alike-self : (c : Circuit) → alike c c ≡ true
+unfolding alike
+alike-self c = rw (eq-eqb (c .address) (c .address) refl, eq-eqb (c .extended) (c .extended) refl, eq-eqb (c .extension) (c .extension) refl)
+
+pub alike-swap : (a b : Circuit) → alike a b ≡ true → alike b a ≡ true
+alike-swap a b e = rw (alike-is a b e) (alike-self b)
 
 -- the refusals 2, 3 and 4 of circuits that are accepted
 pub circuitsRefusal-zero : (cs : List Circuit) → circuitsRefusal cs ≡ 0

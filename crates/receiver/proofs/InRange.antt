@@ -28,6 +28,7 @@ use Rattle.receiver.specs.Record.{storeLength, fresh, slotAt, slotInRang
 use Rattle.receiver.specs.Packets.{address, circuitIn, malformed, numberFrom}
 use Rattle.receiver.specs.Notices.{Heard, withSlot, heardAt, heardBy, systemHeard, heard}
 use Rattle.receiver.specs.Reading.{withFraming, noticed, readBy, readScan, readRefusal, receiverAfterRead}
+use Rattle.receiver.specs.Reads.{ReadCall, ReceiverEnd, freshReceiverEnd, afterRead, afterReads}
 use Rattle.receiver.proofs.SlotsInRange.{cond-either, replicate-slotsInRange, getD-slotsInRange, set-slotsInRange, slotAfter-in-range}
 
 -- a record in range, by its parts
@@ -125,7 +126,7 @@ noticed-in-range (Packet n) bytes r store b e = heard-in-range r store (take n b
 noticed-in-range Spoilt bytes r store b e = e
 noticed-in-range Nothing bytes r store b e = e
 
-noticed-framing : (c : Check) (bytes : List ℕ) (r : Receiver) (store : List ℕ) → noticed c bytes r store .receiver .framing ≡ r .framing
+pub noticed-framing : (c : Check) (bytes : List ℕ) (r : Receiver) (store : List ℕ) → noticed c bytes r store .receiver .framing ≡ r .framing
 unfolding noticed
 noticed-framing (Packet n) bytes r store = heard-framing r store (take n bytes)
 noticed-framing Spoilt bytes r store = refl
@@ -156,23 +157,13 @@ module _ (r : Receiver) (store bytes : List ℕ) (from to : ℕ) (h : Array21 (r
 
 -- ---- reading calls from a listing on
 
-pub record ReadCall : Type 0 where
-  pub store : List ℕ
-  pub bytes : List ℕ
-  pub from : ℕ
-  pub to : ℕ
-
--- the receiver that reading calls leave, each with bytes and a store of its own
-unfoldable pub afterReads : Receiver → List ReadCall → Receiver
-afterReads r [] = r
-afterReads r (c ∷ cs) = afterReads (receiverAfterRead r (c .store) (c .bytes) (c .from) (c .to)) cs
-
-pub reads-in-range : (cs : List ReadCall) (r : Receiver) → Array21 (r .framing .bits) → inRange r ≡ true → inRange (afterReads r cs) ≡ true
-unfolding afterReads
-reads-in-range [] r h e = e
-reads-in-range (c ∷ cs) r h e =
-    reads-in-range cs (receiverAfterRead r (c .store) (c .bytes) (c .from) (c .to))
-    (read-array r (c .store) (c .bytes) (c .from) (c .to) h) (read-in-range r (c .store) (c .bytes) (c .from) (c .to) h e)
+pub reads-in-range : (cs : List ReadCall) (e : ReceiverEnd) → Array21 (e .receiver .framing .bits) → inRange (e .receiver) ≡ true
+    → inRange (afterReads e cs .receiver) ≡ true
+unfolding afterReads afterRead
+reads-in-range [] e h k = k
+reads-in-range (c ∷ cs) e h k =
+    reads-in-range cs (afterRead e c) (read-array (e .receiver) (e .store) (c .bytes) (c .from) (c .to) h)
+    (read-in-range (e .receiver) (e .store) (c .bytes) (c .from) (c .to) h k)
 
 -- no record that calls made is refused with 14
 in-range-not-14 : (r : Receiver) (store bytes : List ℕ) (from to : ℕ) → inRange r ≡ true → readRefusal r store bytes from to ≡ 14 → ⊥
@@ -185,9 +176,10 @@ in-range-not-14 r store bytes from to e h =
     go false true k = omega arith
     go false false k = omega arith
 
-pub never-14 : (list : List ℕ) (calls : List ReadCall) (store bytes : List ℕ) (from to : ℕ)
-    → readRefusal (afterReads (fresh (listing list)) calls) store bytes from to ≡ 14 → ⊥
+pub never-14 : (list store : List ℕ) (calls : List ReadCall) (bytes : List ℕ) (from to : ℕ)
+    → (let e = afterReads (freshReceiverEnd list store) calls in readRefusal (e .receiver) (e .store) bytes from to ≡ 14) → ⊥
 unfolding fresh
-never-14 list calls store bytes from to =
-    in-range-not-14 (afterReads (fresh (listing list)) calls) store bytes from to
-    (reads-in-range calls (fresh (listing list)) Array21-fresh (fresh-in-range list))
+never-14 list store calls bytes from to =
+    let e : ReceiverEnd = afterReads (freshReceiverEnd list store) calls in
+    in-range-not-14 (e .receiver) (e .store) bytes from to
+    (reads-in-range calls (freshReceiverEnd list store) Array21-fresh (fresh-in-range list))

@@ -6,3 +6,4 @@ pub mod PacketParts
 pub mod Fates
 pub mod Stores
 pub mod Hearings
+pub mod ReadingCalls

@@ -3,4 +3,5 @@ pub mod Record
 pub mod Packets
 pub mod Notices
 pub mod Reading
+pub mod Reads
 pub mod Found

@@ -2,17 +2,17 @@
 -- then those that wait.
 use Prim.Native.Nat.{ℕ, zero, suc, _≤_, _<_}
 use native.Mathlib.Omega.{arith}
-use mathlib.Core.Bool.{Bool, true, false, cond, _&&_, and-eq-true-iff, true≢false}
+use mathlib.Core.Bool.{Bool, true, false, cond, true≢false}
 use mathlib.Core.List.{List, [], _∷_, _++_, append-assoc, append-nil, nil≢cons}
 use mathlib.Core.Path.{_≡_, refl, sym, ap, _∙_}
 use lib.ListN.{length, getD, length-map, List·getD-eq-default, List·getD-map}
 use lib.Seq.{getD-take, getD-set-same, getD-set-other, length-take-le}
 use lib.Dec.{ltb, eqb}
-use borrow.Author.Tests.{ltb-true, ltb-false, eqb-true, eqb-false, eq-eqb}
+use borrow.Author.Tests.{ltb-true, ltb-false, eqb-true, eqb-false}
 use Rattle.bits.proofs.Tests.{or-left, or-right}
 use Rattle.packet.specs.declared.Circuit.{Circuit}
 use Rattle.packet.specs.Circuits.{circuitsOf, some-circuit, alike, twoAlike, listRefusal, listed, noCircuit}
-use Rattle.packet.proofs.CircuitLists.{circuitsRefusal-zero, some-circuit-each}
+use Rattle.packet.proofs.CircuitLists.{alike-self, alike-swap, circuitsRefusal-zero, some-circuit-each}
 use Rattle.sender.specs.declared.Sender.{Sender}
 use Rattle.sender.specs.Blocks.{enableBits, opening}
 use Rattle.sender.specs.Queues.{Copy, Queue, Queues, freshQueue, freshQueues, queueAt, messageCopies, offered, offerQueues, behindFirst, behind, serveQueues, pickQueue, Placed, Taken, takenNone, andTaken, takeUpTo, copiesInQueues, takeFrames}
@@ -24,17 +24,6 @@ use Rattle.sender.proofs.Queues.{cons-behindFirst, queueAt-offer, queue
 use Rattle.sender.proofs.StandsCalls.{stands-fresh, stands-call}
 
 -- ---- circuits that are not alike
-
-alike-of : (a b : Circuit) → a .address ≡ b .address → a .extended ≡ b .extended → a .extension ≡ b .extension → alike a b ≡ true
-unfolding alike
-alike-of a b x y z = rw (eq-eqb (a .address) (b .address) x, eq-eqb (a .extended) (b .extended) y, eq-eqb (a .extension) (b .extension) z)
-
-alike-swap : (a b : Circuit) → alike a b ≡ true → alike b a ≡ true
-unfolding alike
-alike-swap a b e =
-    let (f, z) = and-eq-true-iff (eqb (a .address) (b .address) && eqb (a .extended) (b .extended)) _ .0 e in
-    let (x, y) = and-eq-true-iff (eqb (a .address) (b .address)) _ .0 f in
-    alike-of b a (sym (eqb-true _ _ x)) (sym (eqb-true _ _ y)) (sym (eqb-true _ _ z))
 
 twoAlike-before : (cs : List Circuit) (i j : ℕ) → twoAlike cs ≡ false → i < j → j < length cs
     → alike (getD cs i noCircuit) (getD cs j noCircuit) ≡ false
@@ -71,7 +60,7 @@ alike-eqb cs i j e li lj = go (eqb i j) refl
     go : (t : Bool) → eqb i j ≡ t → alike a b ≡ t
     go true same =
         let is : i ≡ j = eqb-true i j same in
-        rw is (alike-of b b refl refl refl)
+        rw is (alike-self b)
     go false other = order (ltb i j) refl (eqb-false i j other)
 
 -- ---- taking frames

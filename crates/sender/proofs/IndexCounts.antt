@@ -31,7 +31,7 @@ unfolding copiesOf
 copiesOf-append [] b = refl
 copiesOf-append (p ∷ a) b = rw (copiesOf-append a b) (sym (append-assoc (replicate (suc (p .repetition)) (p .original)) (copiesOf a) (copiesOf b)))
 
-Numbered-append : (a : List Sent) (n : ℕ) (b : List Sent) → Numbered n a → Numbered (n + length a) b → Numbered n (a ++ b)
+pub Numbered-append : (a : List Sent) (n : ℕ) (b : List Sent) → Numbered n a → Numbered (n + length a) b → Numbered n (a ++ b)
 unfolding Numbered
 Numbered-append [] n b h g = rw add-zero at g
 Numbered-append (p ∷ a) n b h g =
@@ -41,7 +41,7 @@ Numbered-append (p ∷ a) n b h g =
 -- ---- a message's packets
 
 -- the index of a packet of a message
-indexIn-copyOf : (k : Circuit) (priority : ℕ) (message : List ℕ) (number i : ℕ) → priority ≤ 3
+pub indexIn-copyOf : (k : Circuit) (priority : ℕ) (message : List ℕ) (number i : ℕ) → priority ≤ 3
     → indexIn (copyOf k priority message number i .packet) ≡ number % 8
 unfolding copyOf packetOf control indexIn
 indexIn-copyOf k priority message number i h = omega arith

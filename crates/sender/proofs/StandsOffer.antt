@@ -1,14 +1,15 @@
 -- Offering: the record and store after an accepted offer stand for the queues with the message's copies at its circuit. The message begins
 -- its own region, and no other region changes.
-use Prim.Native.Nat.{ℕ, suc, _+_, _-_, _*_, _≤_, _<_}
+use Prim.Native.Nat.{ℕ, _+_, _-_, _*_, _≤_, _<_}
 use native.Mathlib.Omega.{arith}
 use mathlib.Core.Bool.{Bool, true, false}
-use mathlib.Core.List.{List, [], _∷_, _++_, append-assoc}
-use mathlib.Core.Path.{_≡_, refl, ap, _∙_}
-use lib.ListN.{length, take, drop, getD, set}
-use lib.Seq.{sets, sets-eq, take-set-le, take-set-lt, drop-set-lt, drop-set-add, take-append-seam, drop-at, length-take-le}
+use mathlib.Core.List.{List, _++_, append-assoc}
+use mathlib.Core.Path.{_≡_, refl, ap}
+use lib.ListN.{length, take, drop, getD}
+use lib.Seq.{sets, sets-eq, take-set-lt, take-append-seam, drop-at, length-take-le}
 use lib.Dec.{ltb}
 use borrow.Author.Tests.{ltb-true, ltb-false}
+use Rattle.bits.proofs.Lists.{drop-sets-before, take-sets-behind, drop-sets-add}
 use Rattle.packet.specs.Circuits.{noCircuit}
 use Rattle.sender.specs.declared.Slot.{Slot}
 use Rattle.sender.specs.declared.Sender.{Sender}
@@ -21,27 +22,11 @@ use Rattle.sender.proofs.Offers.{OfferFacts, offerRefusal-zero}
 use Rattle.sender.proofs.Stands.{StandsFor-offered}
 use Rattle.sender.proofs.StandsPick.{Stands-set}
 
-module _ {A : Type 0} where
-  -- m elements from n on stay where a stretch is written behind them
-  take-drop-set : (m n : ℕ) (l : List A) (i : ℕ) (a : A) → n + m ≤ i → take m (drop n (set l i a)) ≡ take m (drop n l)
-  take-drop-set m n l i a h =
-      let e : i ≡ n + (i - n) = omega arith in
-      rw (e, drop-set-add n l (i - n) a) (take-set-le m (drop n l) (i - n) a (omega arith))
-
-  take-drop-sets-behind : (v : List A) (m n : ℕ) (l : List A) (i : ℕ) → n + m ≤ i → take m (drop n (sets l i v)) ≡ take m (drop n l)
-  take-drop-sets-behind [] m n l i h = refl
-  take-drop-sets-behind (a ∷ v) m n l i h = take-drop-sets-behind v m n (set l i a) (suc i) (omega arith) ∙ take-drop-set m n l i a h
-
-  -- or before them
-  drop-sets-before : (v : List A) (n : ℕ) (l : List A) (i : ℕ) → i + length v ≤ n → drop n (sets l i v) ≡ drop n l
-  drop-sets-before [] n l i h = refl
-  drop-sets-before (a ∷ v) n l i h = drop-sets-before v n (set l i a) (suc i) (omega arith) ∙ drop-set-lt n l i a (omega arith)
-
-  -- what was written is there
-  take-drop-sets : (v : List A) (l : List A) (i : ℕ) → i + length v ≤ length l → take (length v) (drop i (sets l i v)) ≡ v
-  take-drop-sets v l i h =
-      rw (sets-eq v l i h, append-assoc, drop-at (take i l) (v ++ drop (i + length v) l) i (length-take-le i l (omega arith)))
-      (take-append-seam v (drop (i + length v) l))
+-- what was written is there
+take-drop-sets : (v l : List ℕ) (i : ℕ) → i + length v ≤ length l → take (length v) (drop i (sets l i v)) ≡ v
+take-drop-sets v l i h =
+    rw (sets-eq v l i h, append-assoc, drop-at (take i l) (v ++ drop (i + length v) l) i (length-take-le i l (omega arith)))
+    (take-append-seam v (drop (i + length v) l))
 
 -- regions: the message begins its own, and the others keep their first bytes
 module _ (store : List ℕ) (c : ℕ) (message : List ℕ) (fits : length message ≤ 4094) where
@@ -57,7 +42,9 @@ module _ (store : List ℕ) (c : ℕ) (message : List ℕ) (fits : length messag
       go : (b : Bool) → ltb i c ≡ b → take n (drop (4096 * i) (sets store (4096 * c) message)) ≡ take n (drop (4096 * i) store)
       go true e =
           let before : i < c = ltb-true i c e in
-          take-drop-sets-behind message n (4096 * i) store (4096 * c) (omega arith)
+          let e : 4096 * c ≡ 4096 * i + (4096 * c - 4096 * i) = omega arith in
+          rw (e, drop-sets-add message (4096 * i) store (4096 * c - 4096 * i))
+          (take-sets-behind message n (drop (4096 * i) store) (4096 * c - 4096 * i) (omega arith))
       go false e =
           let behind : c ≤ i = ltb-false i c e in
           ap (take n) (drop-sets-before message (4096 * i) store (4096 * c) (omega arith))

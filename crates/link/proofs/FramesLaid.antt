@@ -1,0 +1,203 @@
+-- Where the frames lie in the joined bits: each with both its flags, and each ends behind the one before it.
+use Prim.Native.Nat.{ℕ, _+_, _-_, _%_, _≤_, _<_}
+use native.Mathlib.Omega.{arith}
+use mathlib.Core.Bool.{Bool, true, false, cond}
+use mathlib.Core.List.{List, [], _∷_, _++_, map, flatten, append-assoc, append-nil}
+use mathlib.Core.Option.{Option, none, some}
+use mathlib.Core.Path.{_≡_, refl, sym, ap, _∙_}
+use lib.ListN.{length, take, drop, replicate, length-append}
+use lib.Seq.{take-append-seam, drop-append-seam}
+use Rattle.bits.specs.Bits.{Bytes}
+use Rattle.hdlc.specs.Frames.{flag, frame}
+use Rattle.hdlc.proofs.Ending.{length-flag}
+use Rattle.packet.specs.declared.Circuit.{Circuit}
+use Rattle.packet.specs.Circuits.{listRefusal}
+use Rattle.packet.specs.Messages.{packets, segment, linkOf}
+use Rattle.packet.specs.Packets.{systemPacket}
+use Rattle.packet.proofs.PacketBytes.{length-packetOf, packetOf-Bytes}
+use Rattle.packet.proofs.Segments.{length-segment, segment-Bytes}
+use Rattle.sender.specs.Blocks.{System, opening}
+use Rattle.sender.specs.Queues.{Copy, copyOf, Placed, placedBits, framesBits}
+use Rattle.sender.specs.Calls.{TakenBlock, usedIn, bitsOfBlock}
+use Rattle.sender.proofs.PacketWriting.{linkOf-lt}
+use Rattle.sender.proofs.BlocksAreQueues.{blocks-are-queues}
+use Rattle.link.specs.Demand3.{Pass, joinedBits, blocks, Frame, frameLength, systemFrames, placedFrames, framesIn, framesInBlocks, frames, BytesIn}
+use Rattle.link.proofs.Steps.{Laid, Ascending, RightCircuit, Made, MadeBy, AllMade}
+use Rattle.link.proofs.FramesMade.{frames-made}
+
+-- ---- where they lie
+
+-- each frame's bits and flags stand in bits from its number on
+There : List Bool → List Frame → Type 0
+There bits [] = Unit {0}
+There bits (f ∷ fs) = (take (frameLength f) (drop (f .from) bits) ≡ flag ++ frame (f .packet) ++ flag) × There bits fs
+
+There-append : (bits : List Bool) (a b : List Frame) → There bits a → There bits b → There bits (a ++ b)
+unfolding There
+There-append bits [] b h g = g
+There-append bits (f ∷ a) b h g = (h .0, There-append bits a b (h .1) g)
+
+-- a stretch that lies between others
+take-between : (pre mid post bits : List Bool) (n : ℕ) → n ≡ length pre → bits ≡ pre ++ (mid ++ post) → take (length mid) (drop n bits) ≡ mid
+take-between pre mid post bits n e is = rw (e, is, drop-append-seam, take-append-seam)
+
+-- frames placed, behind a flag that begins with bit n
+there-placed : (ps : List Placed) (n : ℕ) (pre post bits : List Bool) → n ≡ length pre → bits ≡ pre ++ (flag ++ (framesBits ps ++ post))
+    → There bits (placedFrames n ps)
+unfolding There placedFrames frameLength framesBits placedBits
+there-placed [] n pre post bits e is = tt
+there-placed (p ∷ ps) n pre post bits e is =
+    let f : List Bool = frame (p .copy .packet) in
+    let next : n + length (f ++ flag) ≡ length (pre ++ (flag ++ f)) = simp length-append (omega arith) in (
+      take-between pre (flag ++ f ++ flag) (framesBits ps ++ post) bits n e (is ∙ simp append-assoc),
+      there-placed ps (n + length (f ++ flag)) (pre ++ (flag ++ f)) post bits next (is ∙ simp append-assoc),
+    )
+
+-- the system packet that may stand in a block
+abbrev systemOf : System → List ℕ
+systemOf y = systemPacket (y .enable) (y .code) (y .information)
+
+-- the frames of a block that begins with bit n, and those of blocks
+there-block : (b : TakenBlock) (n : ℕ) (pre post bits : List Bool) → n ≡ length pre → bits ≡ pre ++ (bitsOfBlock b ++ post)
+    → There bits (framesIn n b)
+unfolding There framesIn systemFrames frameLength bitsOfBlock usedIn opening
+there-block b n pre post bits e is = go (b .system .wanted) (is ∙ simp append-assoc)
+  where
+    packet : List ℕ
+    packet = systemOf (b .system)
+
+    ones : List Bool
+    ones = replicate (b .size - length (usedIn b)) true ++ post
+
+    rest : List Bool
+    rest = framesBits (b .frames) ++ ones
+
+    go : (w : Bool) → bits ≡ pre ++ (flag ++ (cond w (frame packet ++ flag) [] ++ rest))
+        → There bits
+        (cond w (record { from = n; packet = packet; whose = none } ∷ []) []
+        ++ placedFrames (n + length (flag ++ cond w (frame packet ++ flag) []) - 8) (b .frames))
+    go true i =
+        let m : n + length (flag ++ (frame packet ++ flag)) - 8 ≡ length (pre ++ (flag ++ frame packet)) =
+        simp length-append (omega (arith, length-flag)) in (
+          take-between pre (flag ++ frame packet ++ flag) rest bits n e (i ∙ simp append-assoc),
+          there-placed (b .frames) _ (pre ++ (flag ++ frame packet)) ones bits m (i ∙ simp append-assoc),
+        )
+    go false i =
+        let m : n + length (flag ++ []) - 8 ≡ length pre = simp length-append (omega (arith, length-flag)) in
+        there-placed (b .frames) _ pre ones bits m i
+
+there-blocks : (bs : List TakenBlock) (n : ℕ) (pre bits : List Bool) → n ≡ length pre → bits ≡ pre ++ flatten (map bitsOfBlock bs)
+    → There bits (framesInBlocks n bs)
+unfolding There framesInBlocks flatten
+there-blocks [] n pre bits e is = tt
+there-blocks (b ∷ bs) n pre bits e is =
+    let next : n + length (bitsOfBlock b) ≡ length (pre ++ bitsOfBlock b) = rw length-append (omega arith) in
+    There-append bits (framesIn n b) (framesInBlocks (n + length (bitsOfBlock b)) bs)
+    (there-block b n pre (flatten (map bitsOfBlock bs)) bits e is)
+    (there-blocks bs (n + length (bitsOfBlock b)) (pre ++ bitsOfBlock b) bits next
+    (is ∙ sym (append-assoc pre (bitsOfBlock b) (flatten (map bitsOfBlock bs)))))
+
+-- ---- their packets
+
+-- bytes, 2 to 19 of them
+Right : List ℕ → Type 0
+Right packet = Bytes packet × (2 ≤ length packet) × (length packet ≤ 19)
+
+-- a system packet, a copy, and what a frame has in it
+right-system : (enable code : ℕ) (information : List ℕ) → enable ≤ 15 → code ≤ 8 → length information ≤ 15 → Bytes information
+    → Right (systemPacket enable code information)
+unfolding Right systemPacket Bytes
+right-system enable code information e c l h = ((omega arith, (omega arith, (omega arith, h))), omega arith, omega arith)
+
+right-copyOf : (k : Circuit) (priority : ℕ) (text : List ℕ) (number part : ℕ) → RightCircuit k → priority ≤ 3 → length text ≤ 4094
+    → Bytes text → part < packets (length text) → Right (copyOf k priority text number part .packet)
+unfolding Right copyOf
+right-copyOf k priority text number part r few short h inside =
+    let (least, most) = length-segment text part inside in
+    let l = length-packetOf k (linkOf part (packets (length text))) (number % 8) priority (segment text part) least most in (
+      packetOf-Bytes k (linkOf part (packets (length text))) (number % 8) priority (segment text part) (omega arith) (r .extended) (r .extension)
+          (linkOf-lt part (packets (length text))) (omega arith) (omega arith) (segment-Bytes text part short h),
+      omega arith,
+      l .1,
+    )
+
+right-made : (whose : Option Placed) (packet : List ℕ) → MadeBy whose packet → Right packet
+unfolding MadeBy
+right-made none packet m =
+    rw (m .is) (right-system (m .enable) (m .code) (m .information) (m .enable-le) (m .code-le) (m .short) (m .bytes))
+right-made (some q) packet m =
+    let c : Made (q .circuit) (q .copy) = m .2 in
+    let is : packet ≡ copyOf (q .circuit) (q .copy .priority) (c .text) (q .copy .number) (c .part) .packet =
+    m .0 ∙ ap (λ (x : Copy). x .packet) (c .is) in
+    rw is (right-copyOf (q .circuit) (q .copy .priority) (c .text) (q .copy .number) (c .part) (m .1) (c .few) (c .short) (c .bytes) (c .inside))
+
+-- frames that stand in bits and have such packets
+laid : (fs : List Frame) (bits : List Bool) → AllMade fs → There bits fs → Laid bits fs
+unfolding AllMade There Laid Right
+laid [] bits h t = tt
+laid (f ∷ fs) bits h t =
+    let r = right-made (f .whose) (f .packet) (h .0) in
+    (record { bytes = r .0; least = r .1; most = r .2; there = t .0 }, laid fs bits (h .1) (t .1))
+
+-- every frame lies in the joined bits
+pub frames-laid : (p : Pass) → listRefusal (p .senderList) ≡ 0 → Bytes (p .senderList) → BytesIn (p .calls) → Laid (joinedBits p) (frames p)
+unfolding frames blocks joinedBits
+frames-laid p listed bytes callBytes =
+    laid (frames p) (joinedBits p) (frames-made p listed bytes callBytes)
+    (there-blocks (blocks p) 0 [] (joinedBits p) refl (ap flatten (blocks-are-queues (p .senderList) (p .senderStore) (p .calls) listed)))
+
+-- ---- their order
+
+-- frames placed behind a flag that begins with bit n, and the rest behind them
+ascending-placed : (ps : List Placed) (m n : ℕ) (rest : List Frame) → m ≤ n + 8
+    → ((k : ℕ) → k ≤ n + 8 + length (framesBits ps) → Ascending k rest) → Ascending m (placedFrames n ps ++ rest)
+unfolding placedFrames framesBits placedBits frameLength Ascending
+ascending-placed [] m n rest h later = later m (omega arith)
+ascending-placed (p ∷ ps) m n rest h later =
+    let f : List Bool = frame (p .copy .packet) in
+    let long : length (flag ++ f ++ flag) ≡ 16 + length f = simp length-append (omega (arith, length-flag)) in
+    let short : length (f ++ flag) ≡ 8 + length f = simp length-append (omega (arith, length-flag)) in (
+      omega arith,
+      ascending-placed ps (n + length (flag ++ f ++ flag)) (n + length (f ++ flag)) rest (omega arith)
+          (λ k le. later k (rw length-append (omega arith))),
+    )
+
+-- the frames of a block that begins with bit n and the rest behind them, and those of blocks
+ascending-block : (b : TakenBlock) (m n : ℕ) (rest : List Frame) → m ≤ n
+    → ((k : ℕ) → k ≤ n + length (bitsOfBlock b) → Ascending k rest) → Ascending m (framesIn n b ++ rest)
+unfolding framesIn systemFrames frameLength bitsOfBlock usedIn opening Ascending
+ascending-block b m n rest h later =
+    go (b .system .wanted)
+    (λ k le. later k (simp length-append (omega (arith, length-append flag (cond (b .system .wanted) (frame packet ++ flag) [])))))
+  where
+    packet : List ℕ
+    packet = systemOf (b .system)
+
+    go : (w : Bool)
+        → ((k : ℕ) → k ≤ n + length (flag ++ cond w (frame packet ++ flag) []) + length (framesBits (b .frames)) → Ascending k rest)
+        → Ascending m
+        (cond w (record { from = n; packet = packet; whose = none } ∷ []) []
+        ++ placedFrames (n + length (flag ++ cond w (frame packet ++ flag) []) - 8) (b .frames)
+        ++ rest)
+    go true behind =
+        let all : length (flag ++ (frame packet ++ flag)) ≡ 16 + length (frame packet) = simp length-append (omega (arith, length-flag)) in
+        let same : length (flag ++ frame packet ++ flag) ≡ 16 + length (frame packet) = simp length-append (omega (arith, length-flag)) in (
+          omega arith,
+          ascending-placed (b .frames) (n + length (flag ++ frame packet ++ flag)) (n + length (flag ++ (frame packet ++ flag)) - 8) rest (omega arith)
+              (λ k le. behind k (omega arith)),
+        )
+    go false behind =
+        let all : length (flag ++ []) ≡ 8 = rw append-nil length-flag in
+        ascending-placed (b .frames) m (n + length (flag ++ []) - 8) rest (omega arith) (λ k le. behind k (omega arith))
+
+ascending-blocks : (bs : List TakenBlock) (m n : ℕ) → m ≤ n → Ascending m (framesInBlocks n bs)
+unfolding framesInBlocks Ascending
+ascending-blocks [] m n h = tt
+ascending-blocks (b ∷ bs) m n h =
+    ascending-block b m n (framesInBlocks (n + length (bitsOfBlock b)) bs) h
+    (λ k le. ascending-blocks bs k (n + length (bitsOfBlock b)) le)
+
+-- every frame ends behind the one before it
+pub frames-ascending : (p : Pass) → Ascending 0 (frames p)
+unfolding frames
+frames-ascending p = ascending-blocks (blocks p) 0 0 (omega arith)

@@ -1,0 +1,25 @@
+-- The proof of demand 3, and what stands around it.
+pub mod Steps
+pub mod ReadsHear
+pub mod ResultingBits
+pub mod SamePackets
+pub mod PassedAreWhole
+pub mod FramesMade
+pub mod FramesLaid
+pub mod MadePackets
+pub mod OneCircuit
+pub mod CopiesThinned
+pub mod OffersAt
+pub mod SentAt
+pub mod Numbering
+pub mod Gaps
+pub mod Losses
+pub mod MessageParts
+pub mod Reassembly
+pub mod ClaimHolds
+pub mod BodiesOfBlocks
+pub mod DroppedBlocks
+pub mod ReplacedByOnes
+pub mod CleanChannel
+pub mod OnChannels
+pub mod Examples

@@ -1,0 +1,69 @@
+-- Lists of reading calls, on the record and store as the calls' contracts say: "Records and stores go from call to call" (document 01, "What demand 3
+-- counts"), and what they take and tell.
+use Prim.Native.Nat.{ℕ}
+use mathlib.Core.Bool.{Bool, cond}
+use mathlib.Core.List.{List, [], _∷_, _++_}
+use lib.ListN.{take, drop}
+use lib.Dec.{eqb}
+use Rattle.bits.specs.Bits.{bitsOf}
+use Rattle.packet.specs.Circuits.{listing}
+use Rattle.receiver.specs.declared.Receiver.{Receiver}
+use Rattle.receiver.specs.declared.Notice.{Notice}
+use Rattle.receiver.specs.Record.{fresh}
+use Rattle.receiver.specs.Notices.{Heard}
+use Rattle.receiver.specs.Reading.{readBy, readScan, readRefusal, receiverAfterRead, storeAfterRead, bitsRead}
+
+-- a reading call: the bytes lent, the bit from which it reads, and the one at which it ends
+pub record ReadCall : Type 0 where
+  pub bytes : List ℕ
+  pub from : ℕ
+  pub to : ℕ
+
+-- the receiver's state between two calls
+pub record ReceiverEnd : Type 0 where
+  pub receiver : Receiver
+  pub store : List ℕ
+
+-- "A fresh .. receiver is the record that an accepted listing returned"; "a store holds any bytes at first"
+abbrev pub freshReceiverEnd : List ℕ → List ℕ → ReceiverEnd
+freshReceiverEnd list store = record { receiver = fresh (listing list); store = store }
+
+-- the call is accepted
+unfoldable pub acceptedRead : ReceiverEnd → ReadCall → Bool
+acceptedRead e c = eqb (readRefusal (e .receiver) (e .store) (c .bytes) (c .from) (c .to)) 0
+
+-- the state after a call
+unfoldable pub afterRead : ReceiverEnd → ReadCall → ReceiverEnd
+afterRead e c =
+    record {
+      receiver = receiverAfterRead (e .receiver) (e .store) (c .bytes) (c .from) (c .to);
+      store = storeAfterRead (e .receiver) (e .store) (c .bytes) (c .from) (c .to);
+    }
+
+unfoldable pub afterReads : ReceiverEnd → List ReadCall → ReceiverEnd
+afterReads e [] = e
+afterReads e (c ∷ cs) = afterReads (afterRead e c) cs
+
+-- "A call reads from its from bit on, as many as it answers"; a refused one reads none
+unfoldable pub bitsOfRead : ReceiverEnd → ReadCall → List Bool
+bitsOfRead e c = take (bitsRead (e .receiver) (e .store) (c .bytes) (c .from) (c .to)) (drop (c .from) (bitsOf (c .bytes)))
+
+-- "what the accepted ones read, joined in order"
+unfoldable pub bitsOfReads : ReceiverEnd → List ReadCall → List Bool
+bitsOfReads e [] = []
+bitsOfReads e (c ∷ cs) = bitsOfRead e c ++ bitsOfReads (afterRead e c) cs
+
+-- a notice, and the store "when its reading call returned"
+pub record Told : Type 0 where
+  pub notice : Notice
+  pub store : List ℕ
+
+-- what a call tells; a refused one tells nothing
+unfoldable pub told : ReceiverEnd → ReadCall → List Told
+told e c =
+    let h : Heard = readBy (readScan (e .receiver) (c .bytes) (c .from) (c .to)) (e .receiver) (e .store) in
+    cond (acceptedRead e c) (record { notice = h .notice; store = h .store } ∷ []) []
+
+unfoldable pub toldByReads : ReceiverEnd → List ReadCall → List Told
+toldByReads e [] = []
+toldByReads e (c ∷ cs) = told e c ++ toldByReads (afterRead e c) cs
