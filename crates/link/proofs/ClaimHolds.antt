@@ -13,11 +13,10 @@ use Rattle.packet.specs.Messages.{packets}
 use Rattle.packet.proofs.CircuitLists.{listRefusal-length}
 use Rattle.framing.specs.Machine.{fresh as freshFraming}
 use Rattle.framing.specs.Closings.{closings}
-use Rattle.sender.specs.Sent.{Sent}
 use Rattle.receiver.specs.Record.{region, systemPlace, storeLength, fresh}
 use Rattle.receiver.specs.Reads.{bitsOfReads}
 use Rattle.link.specs.Demand3.{those, allFrom, Pass, Message, frames, result, cameWhole, comes, came, messagesThatCame, fromFirstToLast, lost, receiver, lossesAt, handedOver, notices, noOtherPasses, atMostSixLost, Given, circuitAt, Demand3, Frame, originals}
-use Rattle.link.proofs.Steps.{given, toldByPackets, Laid, AllMade, packetsAt, Offer, messageOf, sentPackets}
+use Rattle.link.proofs.Steps.{given, toldByPackets, Laid, AllMade, packetsAt, Offer, messageOf, sentPackets, cameOf}
 use Rattle.link.proofs.ReadsHear.{losses-of-reads, handed-of-reads, short-store-reads-nothing}
 use Rattle.link.proofs.PassedAreWhole.{passed-are-whole}
 use Rattle.link.proofs.FramesMade.{list-right, frames-made}
@@ -103,7 +102,7 @@ module _ (p : Pass) (g : Given p) (noOther : noOtherPasses (result p) (frames p)
 
     -- of all packets sent there, whether each came
     mask : List Bool
-    mask = map (λ (q : Sent). comes p k (q .original .number)) (sentPackets k (s .offers))
+    mask = cameOf (comes p k) (sentPackets k (s .offers))
 
     mask-came : fromFirstToLast mask ≡ fromFirstToLast (came p k)
     unfolding mask

@@ -11,7 +11,7 @@ use borrow.Author.Tests.{eq-eqb, ne-eqb}
 use Rattle.sender.specs.Queues.{Copy}
 use Rattle.sender.specs.Sent.{Sent, copiesOf}
 use Rattle.link.specs.Demand3.{anyOf, those, eachOnce}
-use Rattle.link.proofs.Steps.{ThinnedBy, Thinned}
+use Rattle.link.proofs.Steps.{ThinnedBy, Thinned, cameOf}
 
 -- a copy placed, and whether its frame came whole
 pub record Arrival : Type 0 where
@@ -104,14 +104,14 @@ module _ (o : Copy) (rest : List Arrival) where
 pub record Arrived (comes : ℕ → Bool) (n : ℕ) (ps : List Sent) (l : List Arrival) : Type 0 where
   pub thinned : Thinned comes ps (heardIn l)
   pub unplaced : ℕ
-  pub placed : map (λ (s : Sent). comes (s .original .number)) ps ≡ map comes (eachOnce (copiesIn l)) ++ replicate unplaced false
+  pub placed : cameOf comes ps ≡ map comes (eachOnce (copiesIn l)) ++ replicate unplaced false
   pub none-comes : (i : ℕ) → i < n → comesIn l i ≡ false
   pub none-placed : (i : ℕ) → i < n → those (λ j. not (eqb j i)) (eachOnce (copiesIn l)) ≡ eachOnce (copiesIn l)
 
 module _ (comes : ℕ → Bool) (n : ℕ) (p : Sent) (ps : List Sent) (is : p .original .number ≡ n) where
   -- a packet of which nothing is placed, and nothing behind it
   arrived-none : comes (p .original .number) ≡ false → Arrived comes (suc n) ps [] → Arrived comes n (p ∷ ps) []
-  unfolding Thinned ThinnedBy comesIn eachOnce those
+  unfolding Thinned ThinnedBy comesIn eachOnce those cameOf
   arrived-none e later =
       record {
         thinned = rw e (later .thinned);
@@ -125,7 +125,7 @@ module _ (comes : ℕ → Bool) (n : ℕ) (p : Sent) (ps : List Sent) (is : p .o
   arrived-some : (b : Bool) (bs : List Bool) (rest : List Arrival)
       → comes (p .original .number) ≡ comesIn (each (p .original) (b ∷ bs) ++ rest) (p .original .number)
       → Arrived comes (suc n) ps rest → Arrived comes n (p ∷ ps) (each (p .original) (b ∷ bs) ++ rest)
-  unfolding Thinned eachOnce those
+  unfolding Thinned eachOnce those cameOf
   arrived-some b bs rest e later =
       record {
         thinned = rw here (heardIn-each o rest (b ∷ bs) (Thinned comes ps) (later .thinned));
@@ -147,7 +147,7 @@ module _ (comes : ℕ → Bool) (n : ℕ) (p : Sent) (ps : List Sent) (is : p .o
 -- packets counted from n on, of whose copies some are placed and the others wait
 pub arrived : (ps : List Sent) (n : ℕ) (l : List Arrival) (waiting : List Copy) (comes : ℕ → Bool) → CountedFrom n ps
     → copiesIn l ++ waiting ≡ copiesOf ps → ((i : ℕ) → n ≤ i → comes i ≡ comesIn l i) → Arrived comes n ps l
-unfolding CountedFrom copiesOf comesIn Thinned heardIn eachOnce those
+unfolding CountedFrom copiesOf comesIn Thinned heardIn eachOnce those cameOf
 arrived [] n [] waiting comes f e agree =
     record { thinned = refl; unplaced = 0; placed = refl; none-comes = λ i h. refl; none-placed = λ i h. refl }
 arrived [] n (a ∷ l) waiting comes f e agree = absurd (cons≢nil e)

@@ -3,7 +3,7 @@ use Prim.Native.Nat.{ℕ, zero, suc, _+_, _-_, _%_, _≤_}
 use native.Mathlib.Nat.{zero-add}
 use native.Mathlib.Omega.{arith}
 use mathlib.Core.Bool.{Bool, true, false, cond, not, _&&_}
-use mathlib.Core.List.{List, [], _∷_, _++_, map}
+use mathlib.Core.List.{List, [], _∷_, _++_}
 use mathlib.Core.Path.{_≡_, refl, sym, ap, _∙_}
 use lib.ListN.{length, replicate}
 use lib.Dec.{leb, ltb, eqb}
@@ -18,7 +18,7 @@ use Rattle.receiver.specs.Packets.{control, index, link, segment}
 use Rattle.receiver.specs.Notices.{headerLength, messageLength, wrongHeader, isCopy, lossOf, stillOpen, firstFate, betweenFate, lastFate, fateOf, closedSlot, slotAfter}
 use Rattle.receiver.proofs.SlotsInRange.{cond-either}
 use Rattle.link.specs.Demand3.{anyOf, fromFirst, upToLast, fromFirstToLast, lost, atMostSixLost}
-use Rattle.link.proofs.Steps.{lossesHeard, ThinnedBy, Thinned}
+use Rattle.link.proofs.Steps.{lossesHeard, ThinnedBy, Thinned, cameOf}
 use Rattle.link.proofs.Gaps.{gaps, gaps-given, upToLast-none}
 
 -- ---- the slot behind a packet
@@ -120,26 +120,22 @@ lostBehind-suc bs d = go (anyOf (λ b. b) bs)
     go false = refl
 
 module _ (comes : ℕ → Bool) where
-  -- which of the packets sent came
-  cameOf : List Sent → List Bool
-  cameOf ps = map (λ (s : Sent). comes (s .original .number)) ps
-
   -- where one of number a came and d were lost since, the rest adds up
   AddsUp : ℕ → ℕ → List Sent → Type 0
   AddsUp a d ps =
-      (t : Slot) (heard : List (List ℕ)) → t .seen ≡ true → t .last ≡ a % 8 → Thinned comes ps heard → gaps true d (cameOf ps) ≡ true →
-      lossesHeard t heard ≡ lostBehind d (cameOf ps)
+      (t : Slot) (heard : List (List ℕ)) → t .seen ≡ true → t .last ≡ a % 8 → Thinned comes ps heard → gaps true d (cameOf comes ps) ≡ true →
+      lossesHeard t heard ≡ lostBehind d (cameOf comes ps)
 
   -- a packet that comes, and what follows
   losses-came : (t : Slot) (p : List ℕ) (n : ℕ) (ps : List Sent) (heard : List (List ℕ)) → isCopy t p ≡ false → indexIn p ≡ n % 8
-      → ThinnedBy true p (Thinned comes ps) heard → gaps true 0 (cameOf ps) ≡ true → AddsUp n 0 ps
-      → lossesHeard t heard ≡ lossOf t p + lost (upToLast (cameOf ps))
+      → ThinnedBy true p (Thinned comes ps) heard → gaps true 0 (cameOf comes ps) ≡ true → AddsUp n 0 ps
+      → lossesHeard t heard ≡ lossOf t p + lost (upToLast (cameOf comes ps))
   unfolding ThinnedBy AddsUp
   losses-came t p n ps heard new here thinned few later =
       let (copies, rest, is, thin) = thinned in
       rw is
-      (lossesHeard-packet copies t p rest (lost (upToLast (cameOf ps))) new
-      (λ u h. later u rest (h .seen) (h .last ∙ index-in p ∙ here) thin few ∙ lostBehind-zero (cameOf ps)))
+      (lossesHeard-packet copies t p rest (lost (upToLast (cameOf comes ps))) new
+      (λ u h. later u rest (h .seen) (h .last ∙ index-in p ∙ here) thin few ∙ lostBehind-zero (cameOf comes ps)))
 
   -- one came
   losses-seen : (ps : List Sent) (n a d : ℕ) → n ≡ a + 1 + d → Numbered n ps → AddsUp a d ps
@@ -149,36 +145,36 @@ module _ (comes : ℕ → Bool) where
       go (comes (p .original .number)) thinned few (losses-seen ps (suc n) n 0 (omega arith) (numbers .2))
       (losses-seen ps (suc n) a (suc d) (omega arith) (numbers .2))
     where
-      go : (b : Bool) → ThinnedBy b (p .original .packet) (Thinned comes ps) heard → gaps true d (b ∷ cameOf ps) ≡ true
-          → AddsUp n 0 ps → AddsUp a (suc d) ps → lossesHeard t heard ≡ lostBehind d (b ∷ cameOf ps)
+      go : (b : Bool) → ThinnedBy b (p .original .packet) (Thinned comes ps) heard → gaps true d (b ∷ cameOf comes ps) ≡ true
+          → AddsUp n 0 ps → AddsUp a (suc d) ps → lossesHeard t heard ≡ lostBehind d (b ∷ cameOf comes ps)
       go true thin few came gone =
-          let six : d ≤ 6 = leb-true d 6 (and-left (leb d 6) (gaps true 0 (cameOf ps)) few) in
+          let six : d ≤ 6 = leb-true d 6 (and-left (leb d 6) (gaps true 0 (cameOf comes ps)) few) in
           losses-came t (p .original .packet) n ps heard (isCopy-next t (p .original .packet) n a d seen last (numbers .1) next six) (numbers .1) thin
-          (and-right (leb d 6) (gaps true 0 (cameOf ps)) few) came
+          (and-right (leb d 6) (gaps true 0 (cameOf comes ps)) few) came
           ∙ rw (lossOf-next t (p .original .packet) n a d seen last (numbers .1) next six)
-      go false thin few came gone = gone t heard seen last thin few ∙ lostBehind-suc (cameOf ps) d
+      go false thin few came gone = gone t heard seen last thin few ∙ lostBehind-suc (cameOf comes ps) d
 
   -- none came yet
-  losses-unseen : (ps : List Sent) (n d : ℕ) (heard : List (List ℕ)) → Numbered n ps → Thinned comes ps heard → gaps false d (cameOf ps) ≡ true
-      → lossesHeard freshSlot heard ≡ lost (upToLast (fromFirst (cameOf ps)))
+  losses-unseen : (ps : List Sent) (n d : ℕ) (heard : List (List ℕ)) → Numbered n ps → Thinned comes ps heard → gaps false d (cameOf comes ps) ≡ true
+      → lossesHeard freshSlot heard ≡ lost (upToLast (fromFirst (cameOf comes ps)))
   unfolding Numbered Thinned ThinnedBy cameOf gaps fromFirst upToLast lost lossesHeard freshSlot isCopy lossOf
   losses-unseen [] n d heard numbers thinned few = rw thinned
   losses-unseen (p ∷ ps) n d heard numbers thinned few =
       go (comes (p .original .number)) thinned few (losses-unseen ps (suc n) (suc d) heard (numbers .2))
     where
-      go : (b : Bool) → ThinnedBy b (p .original .packet) (Thinned comes ps) heard → gaps false d (b ∷ cameOf ps) ≡ true
-          → (Thinned comes ps heard → gaps false (suc d) (cameOf ps) ≡ true → lossesHeard freshSlot heard ≡ lost (upToLast (fromFirst (cameOf ps))))
-          → lossesHeard freshSlot heard ≡ lost (upToLast (fromFirst (b ∷ cameOf ps)))
+      go : (b : Bool) → ThinnedBy b (p .original .packet) (Thinned comes ps) heard → gaps false d (b ∷ cameOf comes ps) ≡ true
+          → (Thinned comes ps heard → gaps false (suc d) (cameOf comes ps) ≡ true → lossesHeard freshSlot heard ≡ lost (upToLast (fromFirst (cameOf comes ps))))
+          → lossesHeard freshSlot heard ≡ lost (upToLast (fromFirst (b ∷ cameOf comes ps)))
       go true thin few gone =
           losses-came freshSlot (p .original .packet) n ps heard refl (numbers .1) thin few (losses-seen ps (suc n) n 0 (omega arith) (numbers .2))
-          ∙ zero-add (lost (upToLast (cameOf ps)))
+          ∙ zero-add (lost (upToLast (cameOf comes ps)))
       go false thin few gone = gone thin few
 
 -- the losses that a circuit's packets tell are those between the first that came and the last
 pub losses-thinned : (comes : ℕ → Bool) (ps : List Sent) (heard : List (List ℕ)) → Numbered 0 ps → Thinned comes ps heard
-    → atMostSixLost (map (λ (s : Sent). comes (s .original .number)) ps) ≡ true
-    → lossesHeard freshSlot heard ≡ lost (fromFirstToLast (map (λ (s : Sent). comes (s .original .number)) ps))
-unfolding cameOf fromFirstToLast
+    → atMostSixLost (cameOf comes ps) ≡ true
+    → lossesHeard freshSlot heard ≡ lost (fromFirstToLast (cameOf comes ps))
+unfolding fromFirstToLast
 losses-thinned comes ps heard numbers thinned few = losses-unseen comes ps 0 0 heard numbers thinned (gaps-given (cameOf comes ps) few)
 
 -- ---- packets that were never placed

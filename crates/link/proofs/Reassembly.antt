@@ -19,7 +19,7 @@ use Rattle.receiver.specs.Record.{region, freshSlot, open-message}
 use Rattle.receiver.specs.Packets.{index}
 use Rattle.receiver.specs.Notices.{isCopy, lossOf, stillOpen, closedSlot}
 use Rattle.link.specs.Demand3.{those, allFrom, atMostSixLost}
-use Rattle.link.proofs.Steps.{RightCircuit, handedHeard, Offer, packetsFrom, sentPackets, Offered, ThinnedBy, Thinned}
+use Rattle.link.proofs.Steps.{RightCircuit, handedHeard, Offer, packetsFrom, sentPackets, Offered, ThinnedBy, Thinned, cameOf}
 use Rattle.link.proofs.Gaps.{gaps, gaps-given}
 use Rattle.link.proofs.MadePackets.{linkOf-lt, link-made, index-made, segment-made}
 use Rattle.link.proofs.MessageParts.{Carries, Due, heldSlot, withPart, length-withPart, heard-end, heard-more, written-more, heard-orphan}
@@ -106,15 +106,11 @@ pick false o os = refl
 -- ---- packets yet to come
 
 module _ (comes : ℕ → Bool) where
-  -- whether each comes
-  cameOf : List Sent → List Bool
-  cameOf ps = map (λ (s : Sent). comes (s .original .number)) ps
-
   -- the slot and the region between two packets, and what is heard of those yet to come, the first of which has number i
   record Now (ps : List Sent) (i : ℕ) (t : Slot) (area : List ℕ) (d : ℕ) (heard : List (List ℕ)) : Type 0 where
     room : length area ≡ region
     known : KnownBy (t .seen) t i d
-    few : gaps (t .seen) d (cameOf ps) ≡ true
+    few : gaps (t .seen) d (cameOf comes ps) ≡ true
     thinned : Thinned comes ps heard
 
   -- however it was left, the rest hands over this
@@ -139,20 +135,20 @@ module _ (comes : ℕ → Bool) where
       p : List ℕ
       p = s .original .packet
 
-      go : (b : Bool) → gaps (t .seen) d (b ∷ cameOf ps) ≡ true → ThinnedBy b p (Thinned comes ps) heard → G b heard
+      go : (b : Bool) → gaps (t .seen) d (b ∷ cameOf comes ps) ≡ true → ThinnedBy b p (Thinned comes ps) heard → G b heard
       go false g h =
           lost (record { room = now .room; known = known-lost t i d (now .known); few = g; thinned = h }) (lost-shut t i d (now .known))
       go true g (c, rest, e, h) =
           rw e
           (came c rest
           (record {
-            new = next-told t p i d (cameOf ps) is (now .known) g .0;
-            loss = next-told t p i d (cameOf ps) is (now .known) g .1;
+            new = next-told t p i d (cameOf comes ps) is (now .known) g .0;
+            loss = next-told t p i d (cameOf comes ps) is (now .known) g .1;
             next =
                 λ u after seen last room. record {
                   room = room;
                   known = rw seen (i, last ∙ is, omega arith);
-                  few = rw seen (gaps-rest (t .seen) d (cameOf ps) g);
+                  few = rw seen (gaps-rest (t .seen) d (cameOf comes ps) g);
                   thinned = h;
                 };
           }))
@@ -266,9 +262,9 @@ module _ (comes : ℕ → Bool) where
 -- "The messages handed over there are exactly those sent there of which every packet came in some copy, each once, in sending order"
 pub handed-thinned : (comes : ℕ → Bool) (k : Circuit) → RightCircuit k → (os : List Offer) → Offered 0 os → (area : List ℕ) → length area ≡ region
     → (heard : List (List ℕ)) → Thinned comes (sentPackets k os) heard
-    → atMostSixLost (map (λ (s : Sent). comes (s .original .number)) (sentPackets k os)) ≡ true
+    → atMostSixLost (cameOf comes (sentPackets k os)) ≡ true
     → handedHeard freshSlot area heard ≡ map (λ (o : Offer). o .text) (those (λ (o : Offer). allFrom comes (o .first) (packets (length (o .text)))) os)
-unfolding KnownBy freshSlot open-message cameOf complete
+unfolding KnownBy freshSlot open-message complete
 handed-thinned comes k right os offered area room heard thinned few =
     offers comes os k 0 right offered freshSlot area 0 heard
     (record { room = room; known = refl; few = gaps-given (cameOf comes (sentPackets k os)) few; thinned = thinned })

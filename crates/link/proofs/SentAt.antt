@@ -15,11 +15,11 @@ use Rattle.packet.proofs.CircuitLists.{alike-is, circuitsRefusal-zero, listed-l
 use Rattle.sender.specs.Blocks.{System, opening, enableBits}
 use Rattle.sender.specs.Queues.{Copy, Queue, Queues, freshQueue, freshQueues, queueAt, behind, serveQueues, pickQueue, Placed, placedBits, takenNone, andTaken, takeUpTo, copiesInQueues, takeFrames}
 use Rattle.sender.specs.Calls.{Call, offer, block, End, freshEnd, accepted, afterCall, queuesAfterCall, TakenBlock, bitsOfBlock, taken, blocksTaken}
-use Rattle.sender.specs.Sent.{Sent, copiesSent, placedAt, framesOf}
+use Rattle.sender.specs.Sent.{copiesSent, placedAt, framesOf}
 use Rattle.sender.proofs.Queues.{serve-keeps, length-serve, taking-cases}
 use Rattle.sender.proofs.FirstInFirstOut.{first-in-first-out}
 use Rattle.link.specs.Demand3.{anyOf, those, Pass, messages, blocks, Frame, systemFrames, placedFrames, framesIn, framesInBlocks, frames, result, cameWhole, isCopyOf, comes, came, BytesIn}
-use Rattle.link.proofs.Steps.{isOf, packetsAt, Offer, messageOf, sentPackets, Offered, Thinned}
+use Rattle.link.proofs.Steps.{isOf, packetsAt, Offer, messageOf, sentPackets, Offered, Thinned, cameOf}
 use Rattle.link.proofs.CopiesThinned.{Arrival, copiesIn, comesIn, heardIn, arrived}
 use Rattle.link.proofs.OffersAt.{Number, number-of, Lists, lists-fresh, lists-call, offers-at}
 
@@ -181,7 +181,7 @@ pub record SentAt (p : Pass) (k : Circuit) : Type 0 where
   pub sent : messages p k ≡ map messageOf offers
   pub thinned : Thinned (comes p k) (sentPackets k offers) (packetsAt k (those (cameWhole (result p)) (frames p)))
   pub unplaced : ℕ
-  pub placed : map (λ (s : Sent). comes p k (s .original .number)) (sentPackets k offers) ≡ came p k ++ replicate unplaced false
+  pub placed : cameOf (comes p k) (sentPackets k offers) ≡ came p k ++ replicate unplaced false
 
 pub sent-at : (p : Pass) → listRefusal (p .senderList) ≡ 0 → BytesIn (p .calls) → (k : Circuit) → SentAt p k
 unfolding messages blocks frames comes came

@@ -1,7 +1,7 @@
 -- What the steps of the proof hand to each other.
 use Prim.Native.Nat.{ℕ, zero, suc, _+_, _≤_, _<_}
 use mathlib.Core.Bool.{Bool, true, false, cond}
-use mathlib.Core.List.{List, [], _∷_, _++_}
+use mathlib.Core.List.{List, [], _∷_, _++_, map}
 use mathlib.Core.Option.{Option, none, some}
 use mathlib.Core.Path.{_≡_}
 use lib.ListN.{length, take, drop, replicate}
@@ -155,3 +155,7 @@ ThinnedBy false packet later heard = later heard
 unfoldable pub Thinned : (ℕ → Bool) → List Sent → List (List ℕ) → Type 0
 Thinned comes [] heard = heard ≡ []
 Thinned comes (p ∷ ps) heard = ThinnedBy (comes (p .original .number)) (p .original .packet) (Thinned comes ps) heard
+
+-- of the packets sent, whether each came
+unfoldable pub cameOf : (ℕ → Bool) → List Sent → List Bool
+cameOf comes ps = map (λ (s : Sent). comes (s .original .number)) ps
