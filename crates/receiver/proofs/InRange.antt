@@ -133,17 +133,23 @@ noticed-framing Spoilt bytes r store = refl
 noticed-framing Nothing bytes r store = refl
 
 module _ (r : Receiver) (store bytes : List ℕ) (from to : ℕ) (h : Array21 (r .framing .bits)) where
-  arrays : Arrays (readScan r bytes from to)
+  pub arrays : Arrays (readScan r bytes from to)
   unfolding readScan
   arrays = Arrays-scan (slice from to (bitsOf bytes)) (r .framing) from h
 
+  -- with the framing that the scan leaves
+  pub scanned-in-range : inRange r ≡ true → inRange (withFraming r (readScan r bytes from to .framing)) ≡ true
+  unfolding readScan
+  scanned-in-range e =
+      withFraming-in-range r (readScan r bytes from to .framing)
+      (scan-in-range (slice from to (bitsOf bytes)) (r .framing) from h (inRange-parts r e .framing)) e
+
   pub read-in-range : inRange r ≡ true → inRange (receiverAfterRead r store bytes from to) ≡ true
-  unfolding receiverAfterRead readBy readScan
+  unfolding receiverAfterRead readBy
   read-in-range e =
       let s : Scan = readScan r bytes from to in
       cond-either (λ (q : Receiver). inRange q ≡ true) (eqb (readRefusal r store bytes from to) 0) _ _
-      (λ _. noticed-in-range (s .check) (s .bytes) (withFraming r (s .framing)) store (arrays .told .each)
-      (withFraming-in-range r (s .framing) (scan-in-range (slice from to (bitsOf bytes)) (r .framing) from h (inRange-parts r e .framing)) e))
+      (λ _. noticed-in-range (s .check) (s .bytes) (withFraming r (s .framing)) store (arrays .told .each) (scanned-in-range e))
       (λ _. e)
 
   -- and its framing's bits stand in 21 bytes again

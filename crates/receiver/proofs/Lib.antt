@@ -7,3 +7,4 @@ pub mod Fates
 pub mod Stores
 pub mod Hearings
 pub mod ReadingCalls
+pub mod ReadLaws

@@ -3,6 +3,7 @@
 use Prim.Native.Nat.{ℕ, _-_, _*_}
 use mathlib.Core.Bool.{false, cond, not, _||_}
 use mathlib.Core.List.{List}
+use mathlib.Core.Path.{_≡_}
 use lib.ListN.{length, take}
 use lib.Seq.{slice}
 use lib.Dec.{ltb, eqb}
@@ -14,7 +15,11 @@ use Rattle.framing.specs.declared.Check.the-variants.{Spoilt as SpoiltBody}
 use Rattle.framing.specs.declared.Scan.{Scan}
 use Rattle.framing.specs.Scanning.{scan}
 use Rattle.receiver.specs.declared.Receiver.{Receiver}
+use Rattle.receiver.specs.declared.Notice.{Notice}
 use Rattle.receiver.specs.declared.Notice.the-variants.{End, Spoilt}
+use Rattle.receiver.specs.declared.Read.{Read}
+use Rattle.receiver.specs.declared.Read.the-variants.{Told, Refused}
+use Rattle.receiver.specs.declared.Reading.{Reading}
 use Rattle.receiver.specs.Record.{storeLength, inRange}
 use Rattle.receiver.specs.Notices.{Heard, heard}
 
@@ -27,6 +32,12 @@ unfoldable pub noticed : Check → List ℕ → Receiver → List ℕ → Heard
 noticed (Packet n) bytes r store = heard r store (take n bytes)
 noticed SpoiltBody bytes r store = record { receiver = r; store = store; notice = Spoilt; first = false }
 noticed Nothing bytes r store = record { receiver = r; store = store; notice = End; first = false }
+
+-- the notice where no packet passed
+unfoldable pub quietNotice : Check → Notice
+quietNotice (Packet n) = End
+quietNotice SpoiltBody = Spoilt
+quietNotice Nothing = End
 
 -- what a scan of bits leaves and tells
 unfoldable pub readBy : Scan → Receiver → List ℕ → Heard
@@ -54,3 +65,22 @@ storeAfterRead r store bytes from to =
 
 unfoldable pub bitsRead : Receiver → List ℕ → List ℕ → ℕ → ℕ → ℕ
 bitsRead r store bytes from to = cond (eqb (readRefusal r store bytes from to) 0) (readScan r bytes from to .at - from) 0
+
+-- the answer to a reading call: the notice, or the refusal's number
+unfoldable pub readOf : ℕ → Notice → Read
+readOf refusal notice = cond (eqb refusal 0) (Told notice) (Refused refusal)
+
+-- the number of an answer in document 01: 0 stands for a notice
+unfoldable pub readNumber : Read → ℕ
+readNumber (Told notice) = 0
+readNumber (Refused n) = n
+
+unfoldable pub answerToRead : Receiver → List ℕ → List ℕ → ℕ → ℕ → Read
+answerToRead r store bytes from to = readOf (readRefusal r store bytes from to) (readBy (readScan r bytes from to) r store .notice)
+
+-- what a reading call returns and leaves
+pub record ReadCalled (r : Receiver) (old bytes : List ℕ) (from to : ℕ) (new : List ℕ) (a : Reading) : Type 0 where
+  pub receiver : a .receiver ≡ receiverAfterRead r old bytes from to
+  pub read : a .read ≡ answerToRead r old bytes from to
+  pub bits : a .bits ≡ bitsRead r old bytes from to
+  pub store : new ≡ storeAfterRead r old bytes from to

@@ -1,5 +1,6 @@
 // The receiver: its record, listing, and what becomes of a packet.
 
+pub mod call;
 pub mod listing;
 pub mod notices;
 pub mod packets;
@@ -54,6 +55,19 @@ pub struct Hearing {
     pub receiver: Receiver,
     pub notice: Notice,
     pub first: bool,
+}
+
+// What a reading call answers: a notice, or document 01's number of the refusal.
+pub enum Read {
+    Told(Notice),
+    Refused(u8),
+}
+
+// What a reading call returns: its answer, the record, and how many bits it read.
+pub struct Reading {
+    pub read: Read,
+    pub receiver: Receiver,
+    pub bits: usize,
 }
 
 // The number of a listed circuit, if there is one.

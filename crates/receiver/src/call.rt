@@ -1,0 +1,114 @@
+// Reading: lent bits are read up to the first notice.
+ghost use Prim.Native.Nat.{_*_};
+ghost use mathlib.Core.Path.{_≡_};
+ghost use lib.ListN.{length};
+ghost use lib.Dec.{ltb};
+ghost use Rattle.receiver.specs.Reading.{withFraming, quietNotice, readRefusal, ReadCalled};
+use super::Notice;
+use super::Read;
+use super::Reading;
+use super::Receiver;
+use framing::Check;
+use framing::Framing;
+
+// The bits up to number `to` lie past the bytes.
+fn past(bytes: &[u8], to: usize) -> bool
+    ensures { λ r. ⌜ r ≡ ltb (8 * length (now (bytes .entry))) to ⌝ }
+{
+    if bytes.len() < to / 8 {
+        return true;
+    }
+    if to / 8 < bytes.len() {
+        return false;
+    }
+    to % 8 != 0
+}
+
+// The notice where no packet passed: a spoilt body, or the end of the bits.
+fn quiet_notice(check: Check) -> Notice
+    ensures { λ r. ⌜ r ≡ quietNotice check ⌝ }
+{
+    match check {
+        Check::Packet(_) => Notice::End,
+        Check::Spoilt => Notice::Spoilt,
+        Check::Nothing => Notice::End,
+    }
+}
+
+impl Receiver {
+    // Why a reading call is refused, by number; 0 if it is accepted.
+    fn read_refusal(self, store: &[u8], bytes: &[u8], from: usize, to: usize) -> u8
+        ensures { λ r. ⌜ r ≡ readRefusal self (now (store .entry)) (now (bytes .entry)) from to ⌝ }
+    {
+        if !self.in_range() {
+            return 14;
+        }
+        if store.len() < Receiver::STORE {
+            return 5;
+        }
+        if to < from {
+            return 15;
+        }
+        if past(bytes, to) {
+            return 15;
+        }
+        0
+    }
+
+    // The record with another framing.
+    fn with_framing(self, framing: Framing) -> Receiver
+        ensures { λ r. ⌜ r ≡ withFraming self framing ⌝ }
+    {
+        let circuits = self.circuits;
+        let slots = self.slots;
+        Receiver {
+            circuits,
+            slots,
+            framing,
+        }
+    }
+
+    // An accepted call reads up to the first notice.
+    fn read_on(self, store: &mut [u8], bytes: &[u8], from: usize, to: usize) -> Reading
+        requires { ⌜ readRefusal self (now store) (now bytes) from to ≡ 0 ⌝ }
+        ensures { λ r. ⌜ ReadCalled self (now (store .entry)) (now (bytes .entry)) from to (now (store .exit)) r ⌝ }
+    {
+        let framing = self.framing;
+        let scan = framing.scan(bytes, from, to);
+        let bits = scan.at - from;
+        let receiver = self.with_framing(scan.framing);
+        let check = scan.check;
+        let Check::Packet(n) = check else {
+            let notice = quiet_notice(check);
+            return Reading {
+                read: Read::Told(notice),
+                receiver,
+                bits,
+            };
+        };
+        let packet = scan.bytes;
+        let heard = receiver.hear(store, &packet[..n]);
+        let notice = heard.notice;
+        let after = heard.receiver;
+        Reading {
+            read: Read::Told(notice),
+            receiver: after,
+            bits,
+        }
+    }
+
+    // Reads the bits from number `from` up to `to` of the bytes lent, until the first notice.
+    pub fn read(self, store: &mut [u8], bytes: &[u8], from: usize, to: usize) -> Reading
+        ensures { λ r. ⌜ ReadCalled self (now (store .entry)) (now (bytes .entry)) from to (now (store .exit)) r ⌝ }
+    {
+        let number = self.read_refusal(store, bytes, from, to);
+        if number != 0 {
+            return Reading {
+                read: Read::Refused(number),
+                receiver: self,
+                bits: 0,
+            };
+        }
+        self.read_on(store, bytes, from, to)
+    }
+}
