@@ -9,6 +9,8 @@ ghost use lib.ListN.{length, getD, set, replicate};
 ghost use lib.Seq.{sets};
 ghost use Rattle.bits.specs.Bits.{byteBits, bitsOf};
 
+pub mod reader;
+
 // Bit `at` of the buffer.
 pub fn get_bit(s: &[u8], at: usize) -> bool
     requires { ⌜ at < 8 * length (now s) ⌝ }

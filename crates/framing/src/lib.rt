@@ -290,7 +290,7 @@ impl Framing {
         let mut head = self.head();
         let mut at = from;
         while at < to {
-            let bit = bits::get_bit(bytes, at);
+            let bit = bits::reader::bit_at(bytes, at);
             if head.framing(bits).closes(bit) {
                 let framing = head.framing(bits);
                 let check = framing.check();

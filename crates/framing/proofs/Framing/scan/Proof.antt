@@ -47,22 +47,22 @@ turn : (c : tie.After-closes Inv-loop μ-loop) →
     (bitsOf (a .bytes .now))
     (l .at)
     (a .to)
-    (c .before .before .get-bit .result)
+    (c .before .before .bit-at .result)
     (c .closes .result)
 turn c =
     record {
       same = c .before .framing .ensures;
       below = c .before .before .before .loop-test .taken;
       there = long (c .before .before .before .before .before .before .before .before);
-      bit = c .before .before .get-bit .ensures;
+      bit = c .before .before .bit-at .ensures;
       closing = c .closes .ensures;
     }
 
 loop-holds : tie.Need-loop-holds Inv-loop μ-loop
 loop-holds c = (omega arith, refl)
 
-get-bit-requires : tie.Need-get-bit-requires Inv-loop μ-loop
-get-bit-requires c κs = omega arith
+bit-at-requires : tie.Need-bit-at-requires Inv-loop μ-loop
+bit-at-requires c κs = omega arith
 
 framing-requires : tie.Need-framing-requires Inv-loop μ-loop
 framing-requires c κs = search needs
@@ -137,7 +137,7 @@ scan-spec =
     μ-loop
     head-requires
     loop-holds
-    get-bit-requires
+    bit-at-requires
     framing-requires
     closes-requires
     framing-requires-2
