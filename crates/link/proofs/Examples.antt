@@ -17,7 +17,7 @@ use Rattle.hdlc.specs.Frames.{flag, withFcs, frame}
 use Rattle.hdlc.specs.Bodies.{startsWith, holds, flagsFrom, flags, bodiesAfter, betweenFlags, bodies, void, fcsRight, passing, packet, judgeBits, judge}
 use Rattle.packet.specs.Circuits.{circuitsOf, some-circuit, wrongLength, addressFF, wrongExtension, alike, twoAlike, circuitsRefusal, listRefusal, listed, noCircuit, recordOf, listing}
 use Rattle.packet.specs.Messages.{header, headed, segment, packets, linkOf}
-use Rattle.packet.specs.Packets.{control, extensionOf, packetOf}
+use Rattle.packet.specs.Packets.{control, extensionOf, packetOf, systemPacket}
 use Rattle.framing.specs.Machine.{empty, oneRead, held, phaseAfter, keep, zeroRead, step, closes, whole, check}
 use Rattle.framing.specs.Machine.{fresh as freshFraming}
 use Rattle.framing.specs.Range.{inRange as framingInRange, kept as framingKept, allZero, phaseRight, inFives}
@@ -31,8 +31,8 @@ use Rattle.sender.specs.Calls.{Call, offer, block, freshEnd, accepted, afterCal
 use Rattle.sender.specs.Sent.{placedAt, framesOf}
 use Rattle.sender.proofs.BlocksAreQueues.{blocks-are-queues}
 use Rattle.receiver.specs.Record.{region, systemPlace, storeLength, freshSlot, fresh, slotAt, open-message, slotInRange, slotsInRange, inRange}
-use Rattle.receiver.specs.Packets.{address, control as controlIn, link, extended, index, lead, segment as segmentIn, circuitIn, numberFrom, malformed}
-use Rattle.receiver.specs.Notices.{twoBytes, headerLength, messageLength, wrongHeader, isCopy, lossOf, stillOpen, firstFate, fateOf, messagePart, closedSlot, slotAfter, placeOf, storeAfter, withSlot, heardAt, heardBy, heard}
+use Rattle.receiver.specs.Packets.{address, control as controlIn, link, extended, index, lead, segment as segmentIn, circuitIn, numberFrom, descriptor, code, information, enable, malformedSystem, malformed}
+use Rattle.receiver.specs.Notices.{twoBytes, headerLength, messageLength, wrongHeader, isCopy, lossOf, stillOpen, firstFate, lastFate, fateOf, messagePart, closedSlot, slotAfter, placeOf, storeAfter, withSlot, heardAt, heardBy, systemHeard, heard}
 use Rattle.receiver.specs.Reading.{withFraming, noticed, readBy, readScan, readRefusal, receiverAfterRead, storeAfterRead, bitsRead}
 use Rattle.receiver.specs.Reads.{ReadCall, acceptedRead, afterRead, bitsOfRead, bitsOfReads, told, toldByReads}
 use Rattle.link.specs.Demand3.{Piece, kept, replaced, Pass, Message, sentBy, sentByCalls, messages, allFrom, messagesThatCame, joinedBits, blocks, systemFrames, placedFrames, framesIn, framesInBlocks, frames, frameLength, originals, keptBits, newBit, resulting, result, values, isNumber, beginWith, together, cameWhole, isCopyOf, anyOf, allOf, comes, those, eachOnce, came, fromFirst, upToLast, fromFirstToLast, lost, receiver, lossAt, lossesAt, handedFrom, handedAt, handedOver, notices, isPassed, isFrame, noOtherPasses, atMostSixLost, Given, BytesIn, circuitAt, Claim, Demand3}
@@ -57,7 +57,8 @@ torn n m new bits = kept (take n bits) ∷ replaced (take m (drop n bits)) new �
 readsOf : List Bool → List (ℕ × ℕ) → List ReadCall
 readsOf bits places = map (λ (p : ℕ × ℕ). record { bytes = bytesOf bits; from = p .0; to = p .1 }) places
 
--- ---- three messages; some bits in the first packet of the second are torn, by which that packet and its message are lost
+-- ---- three messages at a circuit; some bits in the first packet of the second are torn, by which that packet and its message are lost; beside them a system
+-- packet, a message in two copies at a circuit with an extension, and an offer that is refused
 
 twoCircuits : List ℕ
 twoCircuits = 0x11 ∷ 0 ∷ 0 ∷ 0x22 ∷ 1 ∷ 0x33 ∷ []
@@ -67,8 +68,8 @@ second = 0 ∷ 1 ∷ 2 ∷ 3 ∷ 4 ∷ 5 ∷ 6 ∷ 7 ∷ 8 ∷ 9 ∷ 10 ∷ 11 �
 
 tornCalls : List Call
 tornCalls =
-    offer 0 0 0 (0x47 ∷ []) ∷ block 256 256 (replicate 32 0) nothingWanted ∷
-    offer 2 0 0 (0x47 ∷ []) ∷
+    offer 0 0 0 (0x47 ∷ []) ∷ offer 1 2 1 (0x51 ∷ 0x52 ∷ []) ∷ offer 2 0 0 (0x53 ∷ []) ∷
+    block 360 360 (replicate 45 0) (record { wanted = true; enable = 15; code = 1; information = 0xaa ∷ [] }) ∷
     offer 0 0 0 second ∷ block 280 280 (replicate 35 0) nothingWanted ∷
     offer 0 0 0 (0x48 ∷ []) ∷ block 256 256 (replicate 32 0) nothingWanted ∷ []
 
@@ -82,12 +83,12 @@ tornPass =
       senderList = twoCircuits;
       senderStore = replicate 16384 0;
       calls = tornCalls;
-      pieces = torn 300 3 (true ∷ false ∷ true ∷ true ∷ []) tornBits;
+      pieces = torn 404 3 (true ∷ false ∷ true ∷ true ∷ []) tornBits;
       receiverList = 0x22 ∷ 1 ∷ 0x33 ∷ 0x11 ∷ 0 ∷ 0 ∷ [];
       receiverStore = replicate 16400 0;
       reads =
-          readsOf (values (resulting 0 (torn 300 3 (true ∷ false ∷ true ∷ true ∷ []) tornBits)))
-          ((0, 50) ∷ (50, 793) ∷ (64, 63) ∷ (64, 793) ∷ (433, 793) ∷ (521, 793) ∷ (602, 793) ∷ []);
+          readsOf (values (resulting 0 (torn 404 3 (true ∷ false ∷ true ∷ true ∷ []) tornBits)))
+          ((0, 50) ∷ (50, 897) ∷ (67, 66) ∷ (67, 897) ∷ (139, 897) ∷ (211, 897) ∷ (267, 897) ∷ (537, 897) ∷ (625, 897) ∷ (706, 897) ∷ []);
     }
 
 -- ---- a forged frame: nothing is sent, and an empty message is handed over
@@ -135,6 +136,8 @@ record Computed : Type 0 where
   tornCame : came tornPass (circuitAt tornPass 1) ≡ true ∷ false ∷ true ∷ true ∷ []
   tornSent : map (λ (m : Message). m .text) (messages tornPass (circuitAt tornPass 1)) ≡ (0x47 ∷ []) ∷ second ∷ (0x48 ∷ []) ∷ []
   tornMessages : messagesThatCame tornPass (circuitAt tornPass 1) ≡ (0x47 ∷ []) ∷ (0x48 ∷ []) ∷ []
+  copiesCame : came tornPass (circuitAt tornPass 0) ≡ true ∷ []
+  copiesMessages : messagesThatCame tornPass (circuitAt tornPass 0) ≡ (0x51 ∷ 0x52 ∷ []) ∷ []
   forgedTaken : bitsOfReads (receiver forgedPass) (forgedPass .reads) ≡ values (result forgedPass)
   forgedCame : came forgedPass (circuitAt forgedPass 0) ≡ []
   forgedHanded : handedOver 0 (notices forgedPass) ≡ [] ∷ []
@@ -150,7 +153,7 @@ unfolding list nothingWanted bitsSent torn readsOf twoCircuits tornCalls tornBit
     stuffFrom stuff unstuffFrom unstuff endOnes flag withFcs frame
     startsWith holds flagsFrom flags bodiesAfter betweenFlags bodies void fcsRight passing packet judgeBits judge
     circuitsOf some-circuit wrongLength addressFF wrongExtension alike twoAlike circuitsRefusal listRefusal listed noCircuit recordOf listing
-    header headed segment packets linkOf control extensionOf packetOf
+    header headed segment packets linkOf control extensionOf packetOf systemPacket
     sendRegion sendStoreLength freshSendSlot freshSender sendSlotAt pending sendSlotInRange sendSlotsInRange sendInRange
     offerRefusal offeredSender offeredStore senderAfterOffer storeAfterOffer enabled goingRound orElse
     waitsAt firstWaiting pickFrom pick messageAt nextPacket advanced served copiesWaiting full andThen nextFrame placing fill copiesIn waiting filled
@@ -162,9 +165,9 @@ unfolding list nothingWanted bitsSent torn readsOf twoCircuits tornCalls tornBit
     empty oneRead held phaseAfter keep zeroRead step closes whole check freshFraming allZero phaseRight inFives framingKept framingInRange
     ended stopped scan
     region systemPlace storeLength freshSlot fresh slotAt open-message slotInRange slotsInRange inRange
-    address controlIn link extended index lead segmentIn circuitIn numberFrom malformed
-    twoBytes headerLength messageLength wrongHeader isCopy lossOf stillOpen firstFate fateOf messagePart closedSlot slotAfter placeOf storeAfter withSlot
-    heardAt heardBy heard withFraming noticed readBy readScan readRefusal receiverAfterRead storeAfterRead bitsRead
+    address controlIn link extended index lead segmentIn circuitIn numberFrom descriptor code information enable malformedSystem malformed
+    twoBytes headerLength messageLength wrongHeader isCopy lossOf stillOpen firstFate lastFate fateOf messagePart closedSlot slotAfter placeOf storeAfter withSlot
+    heardAt heardBy systemHeard heard withFraming noticed readBy readScan readRefusal receiverAfterRead storeAfterRead bitsRead
     acceptedRead afterRead bitsOfRead bitsOfReads told toldByReads flatten
     blocks systemFrames placedFrames framesIn framesInBlocks frames frameLength keptBits newBit resulting result values
     isNumber beginWith together cameWhole isCopyOf anyOf allOf comes those eachOnce came fromFirst upToLast fromFirstToLast lost
@@ -176,6 +179,8 @@ computed =
       tornCame = refl;
       tornSent = refl;
       tornMessages = refl;
+      copiesCame = refl;
+      copiesMessages = refl;
       forgedTaken = refl;
       forgedCame = refl;
       forgedHanded = refl;
@@ -217,8 +222,9 @@ given-torn =
       receiverListed = refl;
       senderBytes = Bytes-tested _ refl;
       receiverBytes = Bytes-tested _ refl;
-      callBytes = (Bytes-tested _ refl, (Bytes-tested _ refl, (Bytes-tested _ refl, (Bytes-tested _ refl, (Bytes-tested _ refl, (Bytes-tested _ refl, (Bytes-tested _ refl, tt)))))));
-      inPieces = torn-joined 300 3 (true ∷ false ∷ true ∷ true ∷ []) twoCircuits tornCalls refl;
+      callBytes =
+          (Bytes-tested _ refl, (Bytes-tested _ refl, (Bytes-tested _ refl, (Bytes-tested _ refl, (Bytes-tested _ refl, (Bytes-tested _ refl, (Bytes-tested _ refl, (Bytes-tested _ refl, tt))))))));
+      inPieces = torn-joined 404 3 (true ∷ false ∷ true ∷ true ∷ []) twoCircuits tornCalls refl;
       takes = computed .tornTaken;
     }
 
@@ -256,12 +262,19 @@ given-seven =
 pub a-torn-pass :
     (p : Pass) × Given p × (noOtherPasses (result p) (frames p) ≡ true) × (atMostSixLost (came p (circuitAt p 1)) ≡ true) ×
     (map (λ (m : Message). m .text) (messages p (circuitAt p 1)) ≡ (0x47 ∷ []) ∷ second ∷ (0x48 ∷ []) ∷ []) ×
-    (lossesAt 1 (notices p) ≡ 1) × (handedOver 1 (notices p) ≡ (0x47 ∷ []) ∷ (0x48 ∷ []) ∷ [])
+    (lossesAt 1 (notices p) ≡ 1) × (handedOver 1 (notices p) ≡ (0x47 ∷ []) ∷ (0x48 ∷ []) ∷ []) ×
+    (lossesAt 0 (notices p) ≡ 0) × (handedOver 0 (notices p) ≡ (0x51 ∷ 0x52 ∷ []) ∷ [])
 unfolding Demand3 atMostSixLost fromFirstToLast fromFirst upToLast lost anyOf holds startsWith tornPass circuitsOf
 a-torn-pass =
     let six : atMostSixLost (came tornPass (circuitAt tornPass 1)) ≡ true = rw (computed .tornCame) refl in
     let claim : Claim tornPass 1 = demand-3 tornPass given-torn (computed .tornNoOther) 1 (omega arith) six in
-    (tornPass, given-torn, computed .tornNoOther, six, computed .tornSent, claim .losses ∙ rw (computed .tornCame) refl, claim .handed ∙ computed .tornMessages)
+    let none : atMostSixLost (came tornPass (circuitAt tornPass 0)) ≡ true = rw (computed .copiesCame) refl in
+    let copies : Claim tornPass 0 = demand-3 tornPass given-torn (computed .tornNoOther) 0 (omega arith) none in
+    (tornPass, given-torn, computed .tornNoOther, six, computed .tornSent,
+    claim .losses ∙ rw (computed .tornCame) refl,
+    claim .handed ∙ computed .tornMessages,
+    copies .losses ∙ rw (computed .copiesCame) refl,
+    copies .handed ∙ computed .copiesMessages)
 
 -- without the first the claim is false
 pub noOtherPasses-needed : (p : Pass) × Given p × (atMostSixLost (came p (circuitAt p 0)) ≡ true) × (Claim p 0 → ⊥)

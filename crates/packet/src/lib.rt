@@ -58,8 +58,8 @@ impl Circuit {
         false
     }
 
-    // Refusal 4's condition.
-    fn alike(self, other: Circuit) -> bool
+    // The two are one circuit: refusal 4's condition.
+    pub fn alike(self, other: Circuit) -> bool
         ensures { λ r. ⌜ r ≡ alike self other ⌝ }
     {
         if self.address != other.address {

@@ -159,19 +159,6 @@ pub fn malformed(p: &[u8]) -> bool
     }
 }
 
-// Two circuits are the same.
-fn same_circuit(c: Circuit, d: Circuit) -> bool
-    ensures { λ r. ⌜ r ≡ alike c d ⌝ }
-{
-    if c.address != d.address {
-        return false;
-    }
-    if c.extended != d.extended {
-        return false;
-    }
-    c.extension == d.extension
-}
-
 // The number of a circuit among those listed.
 pub fn number_of(circuits: Circuits, circuit: Circuit) -> Found
     ensures { λ r. ⌜ foundOption r ≡ numberFrom (listed circuits) circuit 0 ⌝ }
@@ -184,7 +171,7 @@ pub fn number_of(circuits: Circuits, circuit: Circuit) -> Found
             return Found::Nowhere;
         }
         let other = list[i];
-        if same_circuit(other, circuit) {
+        if other.alike(circuit) {
             return Found::At(i);
         }
         i += 1;

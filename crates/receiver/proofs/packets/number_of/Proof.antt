@@ -39,8 +39,8 @@ mul-other c = omega arith
 array-copy-out-other : tie.Need-array-copy-out-other Inv-loop μ-loop
 array-copy-out-other c = c .before .loop-test .taken
 
-same-circuit-requires : tie.Need-same-circuit-requires Inv-loop μ-loop
-same-circuit-requires c κs = tt
+alike-requires : tie.Need-alike-requires Inv-loop μ-loop
+alike-requires c κs = tt
 
 returns-2 : tie.Need-returns-2 Inv-loop μ-loop
 unfolding listed foundOption noCircuit
@@ -48,7 +48,7 @@ returns-2 c =
     let s = c .before .before .before .before .before .before .before .before in
     let cs = s .args .circuits in
     let i = c .before .before .before .before .before .loop .i in
-    let same = sym (c .before .same-circuit .ensures) ∙ c .if2 .taken in
+    let same = sym (c .before .alike .ensures) ∙ c .if2 .taken in
     sym (numberFrom-found (s .args .circuit) i (cs .count) (cs .list) (omega arith) (omega arith) same) ∙
     c .before .before .before .before .before .loop .inv .1
 
@@ -64,7 +64,7 @@ loop-again c =
     let s = c .before .before .before .before .before .before .before .before in
     let cs = s .args .circuits in
     let l = c .before .before .before .before .before .loop in
-    let other = sym (c .before .same-circuit .ensures) ∙ c .if2 .left in
+    let other = sym (c .before .alike .ensures) ∙ c .if2 .left in
     (l .inv .0, sym (numberFrom-next (s .args .circuit) (l .i) (cs .count) (cs .list) (omega arith) (omega arith) other) ∙ l .inv .1)
 
 returns-3 : tie.Need-returns-3 Inv-loop μ-loop
@@ -87,7 +87,7 @@ number-of-spec =
     returns
     mul-other
     array-copy-out-other
-    same-circuit-requires
+    alike-requires
     returns-2
     add-i
     loop-less
