@@ -23,7 +23,7 @@ roomAfter (true ∷ bs) zero = roomAfter bs 4
 unfoldable pub stuff : List Bool → List Bool
 stuff bs = stuffFrom bs 4
 
--- the bits unstuffed, where `due` more ones make five, behind which a 0 is dropped; a sixth one, which no body has, is kept
+-- the bits unstuffed, where `due` more ones make five, behind which a 0 is dropped; a sixth one, which only a void body has, is kept
 unfoldable pub unstuffFrom : List Bool → ℕ → List Bool
 unstuffFrom [] due = []
 unstuffFrom (true ∷ bs) (suc due) = true ∷ unstuffFrom bs due

@@ -37,12 +37,12 @@ joints =
       fresh-read = refl;
       fcs-digits = refl;
       fcs-digits-sent = refl;
+      last-6-now-0 = refl;
+      last-3-now-2 = refl;
+      last-3-now-3 = refl;
       packets-0 = refl;
       packets-15 = refl;
       packets-16 = refl;
       packets-4094 = refl;
       control-first = refl;
-      last-6-now-0 = refl;
-      last-3-now-2 = refl;
-      last-3-now-3 = refl;
     }

@@ -62,6 +62,10 @@ pub record Joints : Type 0 where
   pub fcs-digits : fcsOf digits ≡ 0x906e
   -- "sent 6E, 90"
   pub fcs-digits-sent : lowFirst (fcsOf digits) ≡ 0x6e ∷ 0x90 ∷ []
+  -- "Last 6, now 0: loss 1; last 3, now 2: loss 6; last 3, now 3: Copy"
+  pub last-6-now-0 : lossOf (lastWas 6) (nowIs 0) ≡ 1
+  pub last-3-now-2 : lossOf (lastWas 3) (nowIs 2) ≡ 6
+  pub last-3-now-3 : fateOf (lastWas 3) (nowIs 3) ≡ Copy
   -- "Lengths 0, 15, 16, 4,094: 1, 1, 2, 256 packets"
   pub packets-0 : packets 0 ≡ 1
   pub packets-15 : packets 15 ≡ 1
@@ -69,7 +73,3 @@ pub record Joints : Type 0 where
   pub packets-4094 : packets 4094 ≡ 256
   -- "First, no extension, index 5, priority 2: 96 hex": the first of two packets
   pub control-first : control (linkOf 0 2) 0 5 2 ≡ 0x96
-  -- "Last 6, now 0: loss 1; last 3, now 2: loss 6; last 3, now 3: Copy"
-  pub last-6-now-0 : lossOf (lastWas 6) (nowIs 0) ≡ 1
-  pub last-3-now-2 : lossOf (lastWas 3) (nowIs 2) ≡ 6
-  pub last-3-now-3 : fateOf (lastWas 3) (nowIs 3) ≡ Copy

@@ -269,12 +269,17 @@ a-torn-pass =
     let six : atMostSixLost (came tornPass (circuitAt tornPass 1)) ≡ true = rw (computed .tornCame) refl in
     let claim : Claim tornPass 1 = demand-3 tornPass given-torn (computed .tornNoOther) 1 (omega arith) six in
     let none : atMostSixLost (came tornPass (circuitAt tornPass 0)) ≡ true = rw (computed .copiesCame) refl in
-    let copies : Claim tornPass 0 = demand-3 tornPass given-torn (computed .tornNoOther) 0 (omega arith) none in
-    (tornPass, given-torn, computed .tornNoOther, six, computed .tornSent,
-    claim .losses ∙ rw (computed .tornCame) refl,
-    claim .handed ∙ computed .tornMessages,
-    copies .losses ∙ rw (computed .copiesCame) refl,
-    copies .handed ∙ computed .copiesMessages)
+    let copies : Claim tornPass 0 = demand-3 tornPass given-torn (computed .tornNoOther) 0 (omega arith) none in (
+      tornPass,
+      given-torn,
+      computed .tornNoOther,
+      six,
+      computed .tornSent,
+      claim .losses ∙ rw (computed .tornCame) refl,
+      claim .handed ∙ computed .tornMessages,
+      copies .losses ∙ rw (computed .copiesCame) refl,
+      copies .handed ∙ computed .copiesMessages,
+    )
 
 -- without the first the claim is false
 pub noOtherPasses-needed : (p : Pass) × Given p × (atMostSixLost (came p (circuitAt p 0)) ≡ true) × (Claim p 0 → ⊥)

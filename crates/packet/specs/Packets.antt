@@ -18,7 +18,7 @@ extensionOf c = cond (eqb (c .extended) 0) [] (c .extension ∷ [])
 unfoldable pub packetOf : Circuit → ℕ → ℕ → ℕ → List ℕ → List ℕ
 packetOf c link index priority segment = c .address ∷ control link (c .extended) index priority ∷ extensionOf c ++ segment
 
--- "A system packet is FF hex, control 11 0 0 and four enable bits, a descriptor (A7 to A4 block code, A3 to A0 information length),
--- 0 to 15 information bytes"
+-- "A system packet is FF hex, control 11 0 0 and four enable bits (A3 for priority 3 to A0 for priority 0), a descriptor (A7 to A4 block code
+-- 0 to 8, A3 to A0 information length), 0 to 15 information bytes"
 unfoldable pub systemPacket : ℕ → ℕ → List ℕ → List ℕ
 systemPacket enable code information = 0xff ∷ (64 * 3 + enable) ∷ (16 * code + length information) ∷ information

@@ -43,7 +43,7 @@ numberFrom (d ∷ ds) c n = let later = numberFrom ds c (n + 1) in cond (alike d
 
 -- ---- system packets
 
--- a descriptor: "A7 to A4 block code, A3 to A0 information length"
+-- "a descriptor (A7 to A4 block code 0 to 8, A3 to A0 information length)"
 unfoldable pub descriptor : List ℕ → ℕ
 descriptor p = getD (segment p) 0 0
 

@@ -23,7 +23,7 @@ storeLength = 4 * region
 unfoldable pub freshSlot : Slot
 freshSlot = record { index = 0; priority = 0; repetition = 0; copy = 0; length = 0; place = 1 }
 
--- "A fresh sender is the record that an accepted listing returned"; "a fresh sender: circuit 0 first"
+-- "A fresh sender .. is the record that an accepted listing returned"; "a fresh sender: circuit 0 first"
 unfoldable pub fresh : Circuits → Sender
 fresh cs = record { circuits = cs; slots = replicate 4 freshSlot; last = 3 }
 
