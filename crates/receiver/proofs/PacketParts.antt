@@ -3,7 +3,7 @@
 use Prim.Native.Nat.{ℕ, _+_, _-_, _*_, _/_, _%_, _≤_, _<_, min}
 use native.Mathlib.Numerals.{add-one}
 use native.Mathlib.Omega.{arith}
-use mathlib.Core.Bool.{Bool, true, false, cond, not, _||_}
+use mathlib.Core.Bool.{Bool, true, false, cond, not, _||_, or-true}
 use mathlib.Core.List.{List, [], _∷_}
 use mathlib.Core.Option.{none, some, Option·some-injective, Option·none-ne-some}
 use mathlib.Core.Path.{_≡_, refl, sym, _∙_}
@@ -133,15 +133,20 @@ module _ (p : List ℕ) (n : ℕ) (is : n ≡ lead p) where
   unfolding malformed address
   malformed-system h e = rw (← is, lt-leb (length p) n h, eq-eqb (getD p 0 0) 0xff e)
 
-  pub malformed-long : n < length p → (getD p 0 0 ≡ 0xff → ⊥) → 16 < length p - n → true ≡ malformed p
-  unfolding malformed address
-  malformed-long h e long =
-      rw (length-segment p, ← is, lt-leb (length p) n h, ne-eqb (getD p 0 0) 0xff e, lt-ltb 16 (length p - n) long)
+  -- at another address than FF hex
+  module _ (h : n < length p) (e : getD p 0 0 ≡ 0xff → ⊥) where
+    malformed-circuit : malformed p ≡ (ltb 16 (length p - n) || eqb (link p) 3)
+    unfolding malformed address
+    malformed-circuit = rw (length-segment p, ← is, lt-leb (length p) n h, ne-eqb (getD p 0 0) 0xff e)
 
-  pub malformed-link : n < length p → (getD p 0 0 ≡ 0xff → ⊥) → length p - n ≤ 16 → eqb (link p) 3 ≡ malformed p
-  unfolding malformed address
-  malformed-link h e short =
-      rw (length-segment p, ← is, lt-leb (length p) n h, ne-eqb (getD p 0 0) 0xff e, le-ltb 16 (length p - n) short)
+    pub malformed-long : 16 < length p - n → true ≡ malformed p
+    malformed-long long = rw (malformed-circuit, lt-ltb 16 (length p - n) long)
+
+    pub malformed-link : link p ≡ 3 → true ≡ malformed p
+    malformed-link three = rw (malformed-circuit, eq-eqb (link p) 3 three, or-true)
+
+    pub malformed-not : length p - n ≤ 16 → (link p ≡ 3 → ⊥) → false ≡ malformed p
+    malformed-not short other = rw (malformed-circuit, le-ltb 16 (length p - n) short, ne-eqb (link p) 3 other)
 
 -- what a packet that is not malformed has: a segment of 1 to 16 bytes, and at FF hex at most 15 bytes behind the descriptor
 information-le : (p : List ℕ) → malformedSystem p ≡ false → length (information p) ≤ 15

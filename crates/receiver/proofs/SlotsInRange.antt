@@ -125,7 +125,7 @@ module _ (t : Slot) (p : List ℕ) (b : Bytes p) (r : slotInRange t ≡ true) wh
       let s : List ℕ = segment p in
       let body : ℕ = length s - headerLength s in
       cond-either Good (wrongHeader s) _ _ (λ _. good-closed)
-      (λ right. cond-either Good (eqb body (messageLength s)) _ _ (λ _. good-closed)
+      (λ right. cond-either Good (eqb body (messageLength s)) _ _ (λ _. search good-closed)
       (λ _. cond-either Good (eqb (length s) 16 && ltb body (messageLength s)) _ _
       (λ e. good-Begun first (messageLength-most s (segment-Bytes p b) right)
       (ltb-true body (messageLength s) (and-right (eqb (length s) 16) (ltb body (messageLength s)) e)))
@@ -141,12 +141,12 @@ module _ (t : Slot) (p : List ℕ) (b : Bytes p) (r : slotInRange t ≡ true) wh
 
   good-last : Good (lastFate t (segment p))
   unfolding Good slotAfter lastFate
-  good-last = cond-either Good (eqb (t .place + length (segment p)) (t .length)) _ _ (λ _. good-closed) (λ _. good-closed)
+  good-last = cond-either Good (eqb (t .place + length (segment p)) (t .length)) _ _ (λ _. search good-closed) (λ _. good-closed)
 
   good-fate : Good (fateOf t p)
   unfolding Good slotAfter fateOf
   good-fate =
-      cond-either Good (isCopy t p) _ _ (λ _. r)
+      cond-either Good (isCopy t p) _ _ (λ _. search good-closed)
       (λ _. cond-either Good (eqb (link p) 2) _ _ (λ e. good-first (eqb-true (link p) 2 e))
       (λ _. cond-either Good (not (stillOpen t p)) _ _ (λ _. good-closed)
       (λ _. cond-either Good (eqb (link p) 0) _ _ (λ _. good-between) (λ _. good-last))))

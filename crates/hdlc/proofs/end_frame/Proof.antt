@@ -10,6 +10,20 @@ use Rattle.hdlc.proofs.Ending.{low, high, Room-low, Room-high, Room-fla
 use Rattle.hdlc.proofs.end_frame.Statement.{statement}
 use Rattle.hdlc.proofs.end_frame.Tie as tie
 
+-- both bytes in turn
+both : (c : tie.After-put-flag-arg) →
+    let two = c .before .before .before in
+    let s = two .before .before .before .before .before .before .before .before in
+    Put (now (s .args .buf)) (s .args .pen) (low (s .args .pen) ++ high (s .args .pen)) (two .stuff-byte2 .last .0)
+    (two .stuff-byte2 .result)
+unfolding complement
+both c =
+    let two = c .before .before .before in
+    let one = two .before .before .before .before in
+    let pen = one .before .before .before .before .args .pen in
+    Put-append (low pen) (high pen) (Stuffed-Put (low pen) (one .stuff-byte .ensures))
+    (Stuffed-Put (high pen) (two .stuff-byte2 .ensures))
+
 sub-fcs : tie.Need-sub-fcs
 sub-fcs c = search needs
 
@@ -31,20 +45,6 @@ stuff-byte-requires-2 c κs =
     let one = c .before .before .before in
     let s = one .before .before .before .before in
     Room-high (s .args .pen) (s .pre) (Stuffed-Put (low (s .args .pen)) (one .stuff-byte .ensures)) (one .stuff-byte .kept .0)
-
--- both bytes in turn
-both : (c : tie.After-put-flag-arg) →
-    let two = c .before .before .before in
-    let s = two .before .before .before .before .before .before .before .before in
-    Put (now (s .args .buf)) (s .args .pen) (low (s .args .pen) ++ high (s .args .pen)) (two .stuff-byte2 .last .0)
-    (two .stuff-byte2 .result)
-unfolding complement
-both c =
-    let two = c .before .before .before in
-    let one = two .before .before .before .before in
-    let pen = one .before .before .before .before .args .pen in
-    Put-append (low pen) (high pen) (Stuffed-Put (low pen) (one .stuff-byte .ensures))
-    (Stuffed-Put (high pen) (two .stuff-byte2 .ensures))
 
 put-flag-requires : tie.Need-put-flag-requires
 put-flag-requires c κs =

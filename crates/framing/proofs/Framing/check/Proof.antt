@@ -1,5 +1,6 @@
 -- `Framing::check` meets its contract: a body that passes gives its packet, another what its length says.
 use borrow.Author.Needs.{needs}
+use native.Mathlib.Omega.{arith}
 use Rattle.framing.proofs.Stepping.{check-packet, check-spoilt, check-nothing}
 use Rattle.framing.proofs.Framing.check.Statement.{statement}
 use Rattle.framing.proofs.Framing.check.Tie as tie
@@ -18,7 +19,7 @@ returns c =
     check-nothing (c .before .before .before .before .before .args .self) _
     (c .before .before .before .before .whole .ensures)
     (c .before .before .enum-told .given .1)
-    (c .if1 .taken)
+    (omega (arith, c .if1 .taken))
 
 returns-2 : tie.Need-returns-2
 returns-2 c =

@@ -1,5 +1,6 @@
 -- `receiver::notices::still_open` meets its contract.
 use Rattle.receiver.proofs.Fates.{stillOpen-closed, stillOpen-lost, stillOpen-link}
+use native.Mathlib.Omega.{arith}
 use borrow.Author.Needs.{needs}
 use Rattle.receiver.proofs.notices.still_open.Statement.{statement}
 use Rattle.receiver.proofs.notices.still_open.Tie as tie
@@ -11,7 +12,7 @@ loss-of-requires : tie.Need-loss-of-requires
 loss-of-requires c κs = search needs
 
 returns-2 : tie.Need-returns-2
-returns-2 c = stillOpen-lost (c .before .before .before .before .before .args .t) _ (c .before .before .if1 .left) _ (c .before .loss-of .ensures) (c .if2 .taken)
+returns-2 c = stillOpen-lost (c .before .before .before .before .before .args .t) _ (c .before .before .if1 .left) _ (c .before .loss-of .ensures) (λ z. omega (arith, c .if2 .taken))
 
 link-of-requires : tie.Need-link-of-requires
 link-of-requires c κs = search needs

@@ -1,5 +1,6 @@
 -- `receiver::packets::header_wrong` meets its contract. Assumes nothing.
 use borrow.Author.Needs.{needs}
+use native.Mathlib.Omega.{arith}
 use denote.Ref.{now}
 use mathlib.Core.Path.{sym, _∙_}
 use borrow.Author.Tests.{not-true, not-false}
@@ -27,7 +28,7 @@ returns-3 : tie.Need-returns-3
 returns-3 c =
     let two = sym (c .before .before .before .before .two-bytes .ensures) ∙ not-false (c .before .before .before .before .two-bytes .result) (c .before .before .before .if1 .left) in
     let held = c .before .message-length in
-    wrongHeader-below (now (c .before .before .before .before .before .before .args .s)) (held .result) (held .ensures) two (c .before .before .if2 .left) (c .if3 .taken)
+    wrongHeader-below (now (c .before .before .before .before .before .before .args .s)) (held .result) (held .ensures) two (c .before .before .if2 .left) (omega (arith, c .if3 .taken))
 
 returns-4 : tie.Need-returns-4
 returns-4 c =

@@ -3,9 +3,7 @@ use borrow.Author.Needs.{needs}
 use native.Mathlib.Omega.{arith}
 use denote.Ref.{now}
 use mathlib.Core.Path.{_∙_, sym}
-use borrow.Author.Tests.{eq-eqb, ne-eqb}
-use Rattle.receiver.specs.Packets.{link}
-use Rattle.receiver.proofs.PacketParts.{lead-ge, malformed-short, malformed-system, malformed-long, malformed-link}
+use Rattle.receiver.proofs.PacketParts.{lead-ge, malformed-short, malformed-system, malformed-long, malformed-link, malformed-not}
 use Rattle.receiver.proofs.packets.malformed.Statement.{statement}
 use Rattle.receiver.proofs.packets.malformed.Tie as tie
 
@@ -39,7 +37,7 @@ returns-3 : tie.Need-returns-3
 returns-3 c =
     let p = now (c .before .before .before .before .before .before .args .p) in
     let lead = c .before .before .before .before .lead-of in
-    malformed-long p (lead .result) (lead .ensures) (c .before .before .before .if1 .left) (c .before .if2 .left) (c .if3 .taken)
+    malformed-long p (lead .result) (lead .ensures) (c .before .before .before .if1 .left) (c .before .if2 .left) (omega (arith, c .if3 .taken))
 
 link-of-requires : tie.Need-link-of-requires
 link-of-requires c κs = search needs
@@ -48,15 +46,15 @@ returns-4 : tie.Need-returns-4
 returns-4 c =
     let p = now (c .before .before .before .before .before .before .before .before .args .p) in
     let lead = c .before .before .before .before .before .before .lead-of in
-    sym (eq-eqb (link p) 3 (sym (c .before .link-of .ensures) ∙ c .match .keys1)) ∙
-    malformed-link p (lead .result) (lead .ensures) (c .before .before .before .before .before .if1 .left) (c .before .before .before .if2 .left) (c .before .before .if3 .left)
+    malformed-link p (lead .result) (lead .ensures) (c .before .before .before .before .before .if1 .left) (c .before .before .before .if2 .left)
+    (sym (c .before .link-of .ensures) ∙ c .match .keys1)
 
 returns-5 : tie.Need-returns-5
 returns-5 c =
     let p = now (c .before .before .before .before .before .before .before .before .args .p) in
     let lead = c .before .before .before .before .before .before .lead-of in
-    sym (ne-eqb (link p) 3 (λ e. c .match .rest .1 (c .before .link-of .ensures ∙ e))) ∙
-    malformed-link p (lead .result) (lead .ensures) (c .before .before .before .before .before .if1 .left) (c .before .before .before .if2 .left) (c .before .before .if3 .left)
+    malformed-not p (lead .result) (lead .ensures) (c .before .before .before .before .before .if1 .left) (c .before .before .before .if2 .left)
+    (c .before .before .if3 .left) (λ e. c .match .rest .1 (c .before .link-of .ensures ∙ e))
 
 pub malformed-spec : {M : Type 1} → statement M
 malformed-spec =

@@ -1,5 +1,6 @@
 -- `sender::blocks::make_block` meets its contract: a refusal leaves all as it was, and otherwise the block is written.
 use borrow.Author.Needs.{needs}
+use native.Mathlib.Omega.{arith}
 use denote.Ref.{now}
 use mathlib.Core.Path.{_∙_, sym}
 use Rattle.sender.specs.BlockCalls.{system}
@@ -18,7 +19,7 @@ returns c =
     let r = c .before in
     let a = r .before .before .before .before .before .args in
     BlockCalled-refused (a .sender) (now (a .store)) (now (a .buf)) (a .n) (a .u)
-    (system (a .wanted) (a .enable) (a .code) (now (a .information))) (r .refusal .result) (r .refusal .ensures) (c .if1 .taken)
+    (system (a .wanted) (a .enable) (a .code) (now (a .information))) (r .refusal .result) (r .refusal .ensures) (λ z. omega (arith, c .if1 .taken))
 
 write-block-requires : tie.Need-write-block-requires
 write-block-requires c κs = sym (c .before .before .refusal .ensures) ∙ c .before .if1 .left
