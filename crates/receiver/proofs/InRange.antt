@@ -4,7 +4,7 @@ use Prim.Native.Nat.{ℕ, _*_, _<_}
 use mathlib.Core.Bool.{Bool, true, false, cond, _&&_, _||_}
 use mathlib.Core.List.{List, [], _∷_}
 use mathlib.Core.Option.{Option, none, some}
-use mathlib.Core.Path.{_≡_, refl}
+use mathlib.Core.Path.{_≡_, refl, ap}
 use native.Mathlib.Omega.{arith}
 use lib.ListN.{length, take}
 use lib.Seq.{slice}
@@ -97,18 +97,26 @@ heard-in-range r store p b e =
     (λ _. cond-either (λ (h : Heard). inRange (h .receiver) ≡ true) (eqb (address p) 0xff) _ _ (λ _. e)
     (λ _. heardBy-in-range (numberFrom (listed (r .circuits)) (circuitIn p) 0) r store p b e))
 
--- a packet does not change the framing
-heardBy-framing : (n : Option ℕ) (r : Receiver) (store p : List ℕ) → heardBy n r store p .receiver .framing ≡ r .framing
-unfolding heardBy heardAt withSlot
-heardBy-framing none r store p = refl
-heardBy-framing (some c) r store p = refl
+-- a packet does not look at the framing: what it leaves and tells, with another framing left
+unfoldable pub withFramingLeft : Heard → Framing → Heard
+withFramingLeft h f = record { receiver = withFraming (h .receiver) f; store = h .store; notice = h .notice; first = h .first }
 
-pub heard-framing : (r : Receiver) (store p : List ℕ) → heard r store p .receiver .framing ≡ r .framing
-unfolding heard systemHeard
-heard-framing r store p =
-    cond-either (λ (h : Heard). h .receiver .framing ≡ r .framing) (malformed p) _ _ (λ _. refl)
-    (λ _. cond-either (λ (h : Heard). h .receiver .framing ≡ r .framing) (eqb (address p) 0xff) _ _ (λ _. refl)
-    (λ _. heardBy-framing (numberFrom (listed (r .circuits)) (circuitIn p) 0) r store p))
+heardBy-withFraming : (n : Option ℕ) (r : Receiver) (f : Framing) (store p : List ℕ)
+    → heardBy n (withFraming r f) store p ≡ withFramingLeft (heardBy n r store p) f
+unfolding heardBy heardAt withSlot slotAt withFraming withFramingLeft
+heardBy-withFraming none r f store p = refl
+heardBy-withFraming (some c) r f store p = refl
+
+pub heard-withFraming : (r : Receiver) (f : Framing) (store p : List ℕ) → heard (withFraming r f) store p ≡ withFramingLeft (heard r store p) f
+unfolding heard systemHeard withFraming withFramingLeft
+heard-withFraming r f store p =
+    rw (heardBy-withFraming (numberFrom (listed (r .circuits)) (circuitIn p) 0) r f store p) (go (malformed p) (eqb (address p) 0xff) _ _ _)
+  where
+    go : (a b : Bool) (x y z : Heard)
+        → cond a (withFramingLeft x f) (cond b (withFramingLeft y f) (withFramingLeft z f)) ≡ withFramingLeft (cond a x (cond b y z)) f
+    go true b x y z = refl
+    go false true x y z = refl
+    go false false x y z = refl
 
 -- ---- a reading call
 
@@ -127,8 +135,8 @@ noticed-in-range Spoilt bytes r store b e = e
 noticed-in-range Nothing bytes r store b e = e
 
 pub noticed-framing : (c : Check) (bytes : List ℕ) (r : Receiver) (store : List ℕ) → noticed c bytes r store .receiver .framing ≡ r .framing
-unfolding noticed
-noticed-framing (Packet n) bytes r store = heard-framing r store (take n bytes)
+unfolding noticed withFraming withFramingLeft
+noticed-framing (Packet n) bytes r store = ap (λ (h : Heard). h .receiver .framing) (heard-withFraming r (r .framing) store (take n bytes))
 noticed-framing Spoilt bytes r store = refl
 noticed-framing Nothing bytes r store = refl
 

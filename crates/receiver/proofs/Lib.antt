@@ -8,3 +8,4 @@ pub mod Stores
 pub mod Hearings
 pub mod ReadingCalls
 pub mod ReadLaws
+pub mod ReadsTell

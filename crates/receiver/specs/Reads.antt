@@ -1,16 +1,18 @@
 -- Lists of reading calls, on the record and store as the calls' contracts say: "Records and stores go from call to call" (document 01, "What demand 3
--- counts"), and what they take and tell.
+-- counts"), and what they take and tell; and what the bodies in the bits that they take tell.
 use Prim.Native.Nat.{ℕ}
-use mathlib.Core.Bool.{Bool, cond}
-use mathlib.Core.List.{List, [], _∷_, _++_}
+use mathlib.Core.Bool.{Bool, true, false, cond}
+use mathlib.Core.List.{List, [], _∷_, _++_, map}
 use lib.ListN.{take, drop}
 use lib.Dec.{eqb}
 use Rattle.bits.specs.Bits.{bitsOf}
+use Rattle.hdlc.specs.Bodies.{Body, Judged, passes, spoilt, nothing, judge}
 use Rattle.packet.specs.Circuits.{listing}
 use Rattle.receiver.specs.declared.Receiver.{Receiver}
 use Rattle.receiver.specs.declared.Notice.{Notice}
+use Rattle.receiver.specs.declared.Notice.the-variants.{End, Spoilt, Malformed, System, Elsewhere, Circuit}
 use Rattle.receiver.specs.Record.{fresh}
-use Rattle.receiver.specs.Notices.{Heard}
+use Rattle.receiver.specs.Notices.{Heard, heard}
 use Rattle.receiver.specs.Reading.{readBy, readScan, readRefusal, receiverAfterRead, storeAfterRead, bitsRead}
 
 -- a reading call: the bytes lent, the bit from which it reads, and the one at which it ends
@@ -67,3 +69,31 @@ told e c =
 unfoldable pub toldByReads : ReceiverEnd → List ReadCall → List Told
 toldByReads e [] = []
 toldByReads e (c ∷ cs) = told e c ++ toldByReads (afterRead e c) cs
+
+-- ---- what the bodies in bits tell
+
+-- "Each body that passes gives one notice; one that does not, and unstuffs to 32 bits or more, gives Spoilt. Others, void ones too, give none":
+-- of what the bodies give, one after another
+unfoldable pub toldByJudged : Receiver → List ℕ → List Judged → List Told
+toldByJudged r store [] = []
+toldByJudged r store (passes packet ∷ js) =
+    let h : Heard = heard r store packet in
+    record { notice = h .notice; store = h .store } ∷ toldByJudged (h .receiver) (h .store) js
+toldByJudged r store (spoilt ∷ js) = record { notice = Spoilt; store = store } ∷ toldByJudged r store js
+toldByJudged r store (nothing ∷ js) = toldByJudged r store js
+
+unfoldable pub toldByBodies : Receiver → List ℕ → List Body → List Told
+toldByBodies r store bs = toldByJudged r store (map (λ (b : Body). judge (b .bits)) bs)
+
+-- what is told but End
+unfoldable pub isEnd : Notice → Bool
+isEnd End = true
+isEnd Spoilt = false
+isEnd Malformed = false
+isEnd (System enable code length) = false
+isEnd Elsewhere = false
+isEnd (Circuit c loss fate) = false
+
+unfoldable pub notEnd : List Told → List Told
+notEnd [] = []
+notEnd (t ∷ ts) = cond (isEnd (t .notice)) (notEnd ts) (t ∷ notEnd ts)

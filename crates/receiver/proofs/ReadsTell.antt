@@ -1,0 +1,273 @@
+-- What is read out of any bits equals what they give: whatever reading calls, accepted or refused, and wherever they cut the bits, their notices but End,
+-- with the store as each call left it, are those of the declared bodies of all bits read, in order; and they leave the framing that these bits leave.
+use Prim.Native.Nat.{ℕ, zero, suc, _+_, _-_, _≤_}
+use native.Mathlib.Omega.{arith}
+use mathlib.Core.Bool.{Bool, true, false, cond}
+use mathlib.Core.List.{List, [], _∷_, _++_, map, map-append}
+use mathlib.Core.Option.{Option, none, some}
+use mathlib.Core.Path.{_≡_, refl, sym, ap, _∙_}
+use lib.ListN.{length, take, drop, length-take}
+use lib.Seq.{slice, take-nil, take-take}
+use lib.Dec.{eqb}
+use Rattle.bits.specs.Bits.{bitsOf}
+use Rattle.hdlc.specs.Bodies.{Body, Judged, passes, spoilt, nothing, bodies, void, judge}
+use Rattle.packet.specs.Circuits.{listed, listing}
+use Rattle.framing.specs.declared.Framing.{Framing}
+use Rattle.framing.specs.declared.Check.{Check}
+use Rattle.framing.specs.declared.Check.the-variants.{Packet, Nothing}
+use Rattle.framing.specs.declared.Check.the-variants.{Spoilt as SpoiltBody}
+use Rattle.framing.specs.declared.Scan.{Scan}
+use Rattle.framing.specs.Machine.{step, run, closes, check}
+use Rattle.framing.specs.Machine.{fresh as freshFraming}
+use Rattle.framing.specs.Closings.{Closing, closingOf, notVoid, givenBy, closed, closings}
+use Rattle.framing.specs.Scanning.{ended, stopped, scan}
+use Rattle.framing.proofs.FramingFindsBodies.{framing-finds-bodies}
+use Rattle.framing.proofs.Void.{void-gives-nothing}
+use Rattle.framing.proofs.Runs.{run-append, closings-append}
+use Rattle.framing.proofs.Scanned.{scan-least, scan-most}
+use Rattle.framing.proofs.ScanFindsFirst.{scan-leaves}
+use Rattle.receiver.specs.declared.Receiver.{Receiver}
+use Rattle.receiver.specs.Record.{fresh}
+use Rattle.receiver.specs.Packets.{address, circuitIn, malformed, numberFrom}
+use Rattle.receiver.specs.Notices.{Heard, heardAt, heardBy, systemHeard, heard}
+use Rattle.receiver.specs.Reading.{withFraming, noticed, readBy, readScan, receiverAfterRead, storeAfterRead, bitsRead}
+use Rattle.receiver.specs.Reads.{ReadCall, ReceiverEnd, freshReceiverEnd, acceptedRead, afterRead, afterReads, bitsOfRead, bitsOfReads}
+use Rattle.receiver.specs.Reads.{Told, told, toldByReads, toldByJudged, toldByBodies, isEnd, notEnd}
+use Rattle.receiver.proofs.SlotsInRange.{cond-either}
+use Rattle.receiver.proofs.InRange.{withFramingLeft, heard-withFraming, noticed-framing}
+
+-- ---- what closed bodies give
+
+abbrev pub gives : List Closing → List Judged
+gives cs = map (λ (c : Closing). c .gives) cs
+
+-- it is the same wherever the bits are counted from
+gives-from : (bits : List Bool) (f : Framing) (m n : ℕ) → gives (closings f m bits) ≡ gives (closings f n bits)
+unfolding closings closed
+gives-from [] f m n = refl
+gives-from (b ∷ bits) f m n = go (closes f b) (gives-from bits (step f b) (suc m) (suc n))
+  where
+    go : (t : Bool) → gives (closings (step f b) (suc m) bits) ≡ gives (closings (step f b) (suc n) bits)
+        → gives (cond t (closed f (suc m) ∷ closings (step f b) (suc m) bits) (closings (step f b) (suc m) bits))
+        ≡ gives (cond t (closed f (suc n) ∷ closings (step f b) (suc n) bits) (closings (step f b) (suc n) bits))
+    go true later = ap (λ js. givenBy (check f) (f .bits) ∷ js) later
+    go false later = later
+
+gives-append : (a b : List Bool) (f : Framing) → gives (closings f 0 (a ++ b)) ≡ gives (closings f 0 a) ++ gives (closings (run f a) 0 b)
+gives-append a b f =
+    rw (
+      closings-append a b f 0,
+      map-append (λ (c : Closing). c .gives) (closings f 0 a) (closings (run f a) (0 + length a) b),
+      gives-from b (run f a) (0 + length a) 0,
+    )
+
+-- the bodies of both lists tell the same
+abbrev TellSame : List Judged → List Judged → Type 0
+TellSame js ks = (r : Receiver) (store : List ℕ) → toldByJudged r store js ≡ toldByJudged r store ks
+
+-- ---- a scan
+
+-- the bits that a scan reads tell what the scan tells, and nothing else, whatever is told behind them
+Tells : Framing → ℕ → List Bool → Scan → Type 0
+Tells f at bits s = (js : List Judged) → TellSame (gives (closings f at (take (s .at - at) bits)) ++ js) (givenBy (s .check) (s .bytes) ∷ js)
+
+-- a bit, where the later bits' scan tells so
+module _ (f : Framing) (at : ℕ) (b : Bool) (bits : List Bool) (later : Scan) (least : suc at ≤ later .at) (tells : Tells (step f b) (suc at) bits later) where
+  read-on : take (later .at - at) (b ∷ bits) ≡ b ∷ take (later .at - suc at) bits
+  read-on = let e : later .at - at ≡ suc (later .at - suc at) = omega arith in rw e
+
+  read-one : take (suc at - at) (b ∷ bits) ≡ b ∷ []
+  read-one = let e : suc at - at ≡ 1 = omega arith in rw e
+
+  -- it closes no body
+  quiet-tells : closes f b ≡ false → Tells f at (b ∷ bits) later
+  unfolding Tells closings
+  quiet-tells e = rw (read-on, e) tells
+
+  -- it closes one
+  stopped-tells : (c : Check) → check f ≡ c → closes f b ≡ true → Tells f at (b ∷ bits) (stopped c f b at later)
+  unfolding Tells stopped closings closed toldByJudged givenBy
+  stopped-tells (Packet n) k e = λ js r store. rw (read-one, e, k)
+  stopped-tells SpoiltBody k e = λ js r store. rw (read-one, e, k)
+  stopped-tells Nothing k e = rw (read-on, e, k) tells
+
+scan-tells : (bits : List Bool) (f : Framing) (at : ℕ) → Tells f at bits (scan f at bits)
+unfolding Tells scan ended closings toldByJudged givenBy
+scan-tells [] f at = λ js r store. rw take-nil
+scan-tells (b ∷ bits) f at = go (closes f b) refl (scan-tells bits (step f b) (suc at))
+  where
+    later : Scan
+    later = scan (step f b) (suc at) bits
+
+    go : (t : Bool) → closes f b ≡ t → Tells (step f b) (suc at) bits later → Tells f at (b ∷ bits) (cond t (stopped (check f) f b at later) later)
+    go true e h = stopped-tells f at b bits later (scan-least bits (step f b) (suc at)) h (check f) refl e
+    go false e h = quiet-tells f at b bits later (scan-least bits (step f b) (suc at)) h e
+
+-- the front of a part
+take-slice : {A : Type 0} (from to n : ℕ) (l : List A) → n ≤ length (slice from to l) → take n (slice from to l) ≡ take n (drop from l)
+take-slice zero to n l h = take-take n to l (omega (arith, length-take to l))
+take-slice (suc from) zero n l h = let e : n ≡ 0 = omega arith in rw e
+take-slice (suc from) (suc to) n [] h = refl
+take-slice (suc from) (suc to) n (x ∷ l) h = take-slice from to n l h
+
+-- the bits that a scan reads
+scan-reads : (f : Framing) (from to : ℕ) (l : List Bool)
+    → (let s = scan f from (slice from to l) in take (s .at - from) (drop from l) ≡ take (s .at - from) (slice from to l))
+scan-reads f from to l =
+    let part : List Bool = slice from to l in
+    sym (take-slice from to (scan f from part .at - from) l (omega (arith, scan-most part f from)))
+
+-- ---- what packets tell
+
+-- it does not depend on the framing
+toldByJudged-withFraming : (js : List Judged) (r : Receiver) (f : Framing) (store : List ℕ)
+    → toldByJudged (withFraming r f) store js ≡ toldByJudged r store js
+unfolding toldByJudged withFramingLeft
+toldByJudged-withFraming [] r f store = refl
+toldByJudged-withFraming (passes p ∷ js) r f store =
+    rw (heard-withFraming r f store p, toldByJudged-withFraming js (heard r store p .receiver) f (heard r store p .store))
+toldByJudged-withFraming (spoilt ∷ js) r f store = rw (toldByJudged-withFraming js r f store)
+toldByJudged-withFraming (nothing ∷ js) r f store = toldByJudged-withFraming js r f store
+
+-- and is not End
+heardBy-tells : (n : Option ℕ) (r : Receiver) (store p : List ℕ) → isEnd (heardBy n r store p .notice) ≡ false
+unfolding heardBy heardAt isEnd
+heardBy-tells none r store p = refl
+heardBy-tells (some c) r store p = refl
+
+heard-tells : (r : Receiver) (store p : List ℕ) → isEnd (heard r store p .notice) ≡ false
+unfolding heard systemHeard isEnd
+heard-tells r store p =
+    cond-either (λ (h : Heard). isEnd (h .notice) ≡ false) (malformed p) _ _ (λ _. refl)
+    (λ _. cond-either (λ (h : Heard). isEnd (h .notice) ≡ false) (eqb (address p) 0xff) _ _ (λ _. refl)
+    (λ _. heardBy-tells (numberFrom (listed (r .circuits)) (circuitIn p) 0) r store p))
+
+-- ---- a reading call
+
+notEnd-append : (a b : List Told) → notEnd (a ++ b) ≡ notEnd a ++ notEnd b
+unfolding notEnd
+notEnd-append [] b = refl
+notEnd-append (t ∷ a) b = rw (notEnd-append a b) (go (isEnd (t .notice)))
+  where
+    go : (e : Bool) → cond e (notEnd a ++ notEnd b) (t ∷ (notEnd a ++ notEnd b)) ≡ cond e (notEnd a) (t ∷ notEnd a) ++ notEnd b
+    go true = refl
+    go false = refl
+
+-- what a scan tells is what the body tells at which it stopped, with bodies behind it
+noticed-tells : (c : Check) (bytes : List ℕ) (r : Receiver) (store : List ℕ) (js : List Judged)
+    → (let h = noticed c bytes r store in
+    toldByJudged r store (givenBy c bytes ∷ js)
+    ≡ notEnd (record { notice = h .notice; store = h .store } ∷ []) ++ toldByJudged (h .receiver) (h .store) js)
+unfolding noticed toldByJudged givenBy notEnd isEnd
+noticed-tells (Packet n) bytes r store js = rw (heard-tells r store (take n bytes))
+noticed-tells SpoiltBody bytes r store js = refl
+noticed-tells Nothing bytes r store js = refl
+
+module _ (e : ReceiverEnd) (c : ReadCall) where
+  -- the call's receiver, the bits lent to it, their scan, and what that leaves and tells
+  abbrev r : Receiver
+  r = e .receiver
+
+  abbrev part : List Bool
+  part = slice (c .from) (c .to) (bitsOf (c .bytes))
+
+  abbrev s : Scan
+  s = scan (r .framing) (c .from) part
+
+  abbrev h : Heard
+  h = noticed (s .check) (s .bytes) (withFraming r (s .framing)) (e .store)
+
+  -- it leaves the framing that the bits it reads leave
+  read-leaves : afterRead e c .receiver .framing ≡ run (r .framing) (bitsOfRead e c)
+  unfolding acceptedRead afterRead receiverAfterRead bitsOfRead bitsRead readScan readBy withFraming run
+  read-leaves = go (acceptedRead e c)
+    where
+      go : (t : Bool) → cond t (h .receiver) r .framing ≡ run (r .framing) (take (cond t (s .at - c .from) 0) (drop (c .from) (bitsOf (c .bytes))))
+      go false = refl
+      go true =
+          rw (noticed-framing (s .check) (s .bytes) (withFraming r (s .framing)) (e .store), scan-reads (r .framing) (c .from) (c .to) (bitsOf (c .bytes)))
+          (scan-leaves part (r .framing) (c .from))
+
+  -- and tells what the bodies in these bits tell, with bodies behind them
+  read-tells : (js : List Judged)
+      → toldByJudged r (e .store) (gives (closings (r .framing) 0 (bitsOfRead e c)) ++ js)
+      ≡ notEnd (told e c) ++ toldByJudged (afterRead e c .receiver) (afterRead e c .store) js
+  unfolding told acceptedRead afterRead receiverAfterRead storeAfterRead bitsOfRead bitsRead readScan readBy closings notEnd Tells
+  read-tells js = go (acceptedRead e c)
+    where
+      go : (t : Bool)
+          → toldByJudged r (e .store) (gives (closings (r .framing) 0 (take (cond t (s .at - c .from) 0) (drop (c .from) (bitsOf (c .bytes))))) ++ js)
+          ≡ notEnd (cond t (record { notice = h .notice; store = h .store } ∷ []) []) ++ toldByJudged (cond t (h .receiver) r) (cond t (h .store) (e .store)) js
+      go false = refl
+      go true =
+          rw (
+            scan-reads (r .framing) (c .from) (c .to) (bitsOf (c .bytes)),
+            gives-from (take (s .at - c .from) part) (r .framing) 0 (c .from),
+            scan-tells part (r .framing) (c .from) js r (e .store),
+          )
+          (sym (toldByJudged-withFraming (givenBy (s .check) (s .bytes) ∷ js) r (s .framing) (e .store))
+          ∙ noticed-tells (s .check) (s .bytes) (withFraming r (s .framing)) (e .store) js)
+
+-- ---- reading calls
+
+-- they tell what the bodies tell that the machine closes in the bits they read
+pub reads-tell : (reads : List ReadCall) (e : ReceiverEnd)
+    → notEnd (toldByReads e reads) ≡ toldByJudged (e .receiver) (e .store) (gives (closings (e .receiver .framing) 0 (bitsOfReads e reads)))
+unfolding toldByReads bitsOfReads closings notEnd toldByJudged
+reads-tell [] e = refl
+reads-tell (c ∷ cs) e =
+    let e′ : ReceiverEnd = afterRead e c in
+    rw (
+      notEnd-append (told e c) (toldByReads e′ cs),
+      reads-tell cs e′,
+      gives-append (bitsOfRead e c) (bitsOfReads e′ cs) (e .receiver .framing),
+      ← read-leaves e c,
+    )
+    (sym (read-tells e c (gives (closings (e′ .receiver .framing) 0 (bitsOfReads e′ cs)))))
+
+-- and leave the framing that these bits leave
+afterReads-leaves : (reads : List ReadCall) (e : ReceiverEnd) → afterReads e reads .receiver .framing ≡ run (e .receiver .framing) (bitsOfReads e reads)
+unfolding afterReads bitsOfReads run
+afterReads-leaves [] e = refl
+afterReads-leaves (c ∷ cs) e =
+    rw (run-append (bitsOfRead e c) (bitsOfReads (afterRead e c) cs) (e .receiver .framing), ← read-leaves e c) (afterReads-leaves cs (afterRead e c))
+
+-- ---- declared bodies
+
+-- behind a body, too, they tell the same
+tell-more : (j : Judged) (js ks : List Judged) → TellSame js ks → TellSame (j ∷ js) (j ∷ ks)
+unfolding toldByJudged
+tell-more (passes p) js ks later = λ r store. rw (later (heard r store p .receiver) (heard r store p .store))
+tell-more spoilt js ks later = λ r store. rw (later r store)
+tell-more nothing js ks later = later
+
+-- those that are not void tell what all tell
+notVoid-tell : (bs : List Body) → TellSame (gives (map closingOf (notVoid bs))) (map (λ (b : Body). judge (b .bits)) bs)
+unfolding toldByJudged closingOf notVoid
+notVoid-tell [] = λ r store. refl
+notVoid-tell (b ∷ bs) = go (void (b .bits)) refl (notVoid-tell bs)
+  where
+    js : List Judged
+    js = map (λ (b : Body). judge (b .bits)) bs
+
+    go : (v : Bool) → void (b .bits) ≡ v → TellSame (gives (map closingOf (notVoid bs))) js
+        → TellSame (gives (map closingOf (cond v (notVoid bs) (b ∷ notVoid bs)))) (judge (b .bits) ∷ js)
+    go true e later = rw (void-gives-nothing (b .bits) e) later
+    go false e later = tell-more (judge (b .bits)) (gives (map closingOf (notVoid bs))) js later
+
+-- ---- from a fresh receiver on
+
+pub reads-tell-bodies : (list store : List ℕ) (reads : List ReadCall)
+    → notEnd (toldByReads (freshReceiverEnd list store) reads)
+    ≡ toldByBodies (fresh (listing list)) store (bodies (bitsOfReads (freshReceiverEnd list store) reads))
+unfolding fresh toldByBodies
+reads-tell-bodies list store reads =
+    let e : ReceiverEnd = freshReceiverEnd list store in
+    reads-tell reads e
+    ∙ ap (λ cs. toldByJudged (e .receiver) store (gives cs)) (framing-finds-bodies (bitsOfReads e reads))
+    ∙ notVoid-tell (bodies (bitsOfReads e reads)) (e .receiver) store
+
+pub reads-leave : (list store : List ℕ) (reads : List ReadCall)
+    → afterReads (freshReceiverEnd list store) reads .receiver .framing ≡ run freshFraming (bitsOfReads (freshReceiverEnd list store) reads)
+unfolding fresh
+reads-leave list store reads = afterReads-leaves reads (freshReceiverEnd list store)
