@@ -35,7 +35,8 @@ scan-finds-first (b ∷ bs) f at = go (closes f b) refl (scan-finds-first bs (st
 
 -- ---- the framing that a scan leaves
 
-take-behind : (n at : ℕ) (b : Bool) (bs : List Bool) → suc at ≤ n → take (n - at) (b ∷ bs) ≡ b ∷ take (n - suc at) bs
+-- the bits up to one behind the first
+pub take-behind : (n at : ℕ) (b : Bool) (bs : List Bool) → suc at ≤ n → take (n - at) (b ∷ bs) ≡ b ∷ take (n - suc at) bs
 take-behind n at b bs h =
     let e : n - at ≡ suc (n - suc at) = omega arith in
     rw e

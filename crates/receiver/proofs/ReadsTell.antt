@@ -25,7 +25,7 @@ use Rattle.framing.proofs.FramingFindsBodies.{framing-finds-bodies}
 use Rattle.framing.proofs.Void.{void-gives-nothing}
 use Rattle.framing.proofs.Runs.{run-append, closings-append}
 use Rattle.framing.proofs.Scanned.{scan-least, scan-most}
-use Rattle.framing.proofs.ScanFindsFirst.{scan-leaves}
+use Rattle.framing.proofs.ScanFindsFirst.{take-behind, scan-leaves}
 use Rattle.receiver.specs.declared.Receiver.{Receiver}
 use Rattle.receiver.specs.Record.{fresh}
 use Rattle.receiver.specs.Packets.{address, circuitIn, malformed, numberFrom}
@@ -74,7 +74,7 @@ Tells f at bits s = (js : List Judged) → TellSame (gives (closings f at (take 
 -- a bit, where the later bits' scan tells so
 module _ (f : Framing) (at : ℕ) (b : Bool) (bits : List Bool) (later : Scan) (least : suc at ≤ later .at) (tells : Tells (step f b) (suc at) bits later) where
   read-on : take (later .at - at) (b ∷ bits) ≡ b ∷ take (later .at - suc at) bits
-  read-on = let e : later .at - at ≡ suc (later .at - suc at) = omega arith in rw e
+  read-on = take-behind (later .at) at b bits least
 
   read-one : take (suc at - at) (b ∷ bits) ≡ b ∷ []
   read-one = let e : suc at - at ≡ 1 = omega arith in rw e
