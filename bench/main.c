@@ -1,5 +1,5 @@
-/* Times the proved frame writer and bit scan beside the plain ones, on the same data in the same run, and stops where
-   their results differ. Each figure is the best of ROUNDS turns, the two sides taking turns. */
+/* Times the proved frame writer, bit scan, block making and reading beside the plain ones, on the same data in the same run,
+   and stops where their results differ. Each figure is the best of ROUNDS turns, the two sides taking turns. */
 #include "bench.h"
 #include <stdio.h>
 #include <stdlib.h>
@@ -7,6 +7,9 @@
 #include <time.h>
 
 enum { PACKETS = 4000, SIZE = 19, ROUNDS = 40, ROOM = PACKETS * 32 };
+
+/* A channel of 315 blocks in bytes, a receiver's store, and the refused calls of a turn. */
+enum { CHANNEL = 315 * 240, STORE = 16400, CALLS = 20000 };
 
 static double now(void)
 {
@@ -23,6 +26,14 @@ static uint32_t noise(void)
     state ^= state >> 17;
     state ^= state << 5;
     return state;
+}
+
+/* Each bit is turned over with this probability. */
+static void tear(uint8_t *bytes, size_t bits, double torn)
+{
+    for (size_t i = 0; i < bits; i++)
+        if (noise() < torn * 4294967295.0)
+            bytes[i / 8] ^= (uint8_t)(1u << (i % 8));
 }
 
 static void differ(const char *what)
@@ -59,9 +70,7 @@ static void run(const char *name, const uint8_t *packets, double torn)
             best[1] = t2 - t1;
         bits = a;
     }
-    for (size_t i = 0; i < bits; i++)
-        if (noise() < torn * 4294967295.0)
-            ours[i / 8] ^= (uint8_t)(1u << (i % 8));
+    tear(ours, bits, torn);
     for (int round = 0; round < ROUNDS; round++) {
         double t0 = now();
         uint64_t a = bench_scan(ours, sizeof ours, 0, bits);
@@ -104,9 +113,57 @@ static void run_blocks(const char *name, const uint8_t *message)
     report(name, "blocks", best[0], best[1], bits);
 }
 
+/* Reading calls over a channel's bits, each from where the one before it stopped. */
+static void run_read(const char *name, const uint8_t *channel)
+{
+    static uint8_t ours[STORE], theirs[STORE];
+    double best[2] = {1e18, 1e18};
+    uint64_t sum = 0;
+    for (int round = 0; round < ROUNDS; round++) {
+        memset(ours, 0, sizeof ours);
+        memset(theirs, 0, sizeof theirs);
+        double t0 = now();
+        uint64_t a = bench_read(channel, CHANNEL, 0, 8 * CHANNEL, ours, sizeof ours);
+        double t1 = now();
+        uint64_t b = plain_read(channel, CHANNEL, 0, 8 * CHANNEL, theirs, sizeof theirs);
+        double t2 = now();
+        if (a != b || memcmp(ours, theirs, sizeof ours))
+            differ("reading");
+        if (t1 - t0 < best[0])
+            best[0] = t1 - t0;
+        if (t2 - t1 < best[1])
+            best[1] = t2 - t1;
+        sum = a;
+    }
+    report(name, "read", best[0], best[1], 8 * CHANNEL);
+    printf("%-12s %d bits, sum of the notices %llu\n", name, 8 * CHANNEL, (unsigned long long)sum);
+}
+
+/* A refused reading call beside the check of its record, which every call begins with. */
+static void run_refused(const uint8_t *channel)
+{
+    static uint8_t store[STORE];
+    double best[2] = {1e18, 1e18};
+    for (int round = 0; round < ROUNDS; round++) {
+        double t0 = now();
+        uint64_t a = bench_refused(channel, CHANNEL, store, sizeof store, CALLS);
+        double t1 = now();
+        uint64_t b = bench_in_range(CALLS);
+        double t2 = now();
+        if (a != 15 * b || b != CALLS)
+            differ("refusals");
+        if (t1 - t0 < best[0])
+            best[0] = t1 - t0;
+        if (t2 - t1 < best[1])
+            best[1] = t2 - t1;
+    }
+    printf("%-12s %-6s proved %5.1f ns/call  its record's check %5.1f ns   ratio %4.2f\n", "refused", "read", best[0] / CALLS,
+           best[1] / CALLS, best[0] / best[1]);
+}
+
 int main(void)
 {
-    static uint8_t packets[PACKETS * SIZE];
+    static uint8_t packets[PACKETS * SIZE], channel[CHANNEL], store[STORE];
     for (size_t i = 0; i < sizeof packets; i++)
         packets[i] = (uint8_t)(noise() >> 11);
     run("random", packets, 0);
@@ -120,5 +177,14 @@ int main(void)
         packets[i] = i % 5 == 0 ? (uint8_t)(noise() >> 11) : (uint8_t)(noise() >> 28);
     run("telemetry", packets, 0);
     run_blocks("telemetry", packets);
+    if (bench_channel(channel, sizeof channel, store, sizeof store, packets, sizeof packets) != sizeof channel)
+        differ("channel");
+    run_read("telemetry", channel);
+    tear(channel, 8 * CHANNEL, 0.002);
+    run_read("torn", channel);
+    for (size_t i = 0; i < sizeof channel; i++)
+        channel[i] = (uint8_t)(noise() >> 11);
+    run_read("noise", channel);
+    run_refused(channel);
     return 0;
 }

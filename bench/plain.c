@@ -1,5 +1,6 @@
-/* A plain bit-by-bit counterpart of the frame writer and the bit scan, as a firmware would have it. */
+/* Plain bit-by-bit counterparts of the frame writer, the bit scan, block making and reading, as a firmware would have them. */
 #include "bench.h"
+#include <string.h>
 
 static uint16_t fcs_bit(uint16_t r, unsigned bit)
 {
@@ -71,17 +72,26 @@ static int passes(const uint8_t *body, size_t count)
     return body[n - 2] == (fcs & 255) && body[n - 1] == fcs >> 8;
 }
 
-/* The bits of a body are appended as they come; the closing flag's first seven are taken back. */
-uint64_t plain_scan(const uint8_t *bytes, size_t len, size_t from, size_t to)
-{
+/* What a reader keeps between two bits. */
+struct framing {
     uint8_t body[32];
-    size_t count = 0;
-    unsigned ones = 0;
-    int zero = 0, inside = 0, five = 0;
-    uint64_t sum = 0;
-    (void)len;
-    for (size_t at = from; at < to; at++) {
-        unsigned bit = (bytes[at / 8] >> (at % 8)) & 1;
+    size_t count;
+    unsigned ones;
+    int zero, inside, five;
+};
+
+/* The bits from *at to `to` are read up to the first body that passes or is spoilt: the length of its packet, which then stands
+   at the body's start, or -1 for a spoilt one; 0 if there is none. The bits of a body are appended as they come; the closing
+   flag's first ones are taken back. */
+static int next_body(struct framing *f, const uint8_t *bytes, size_t *at, size_t to)
+{
+    uint8_t *body = f->body;
+    size_t count = f->count, i = *at;
+    unsigned ones = f->ones;
+    int zero = f->zero, inside = f->inside, five = f->five, found = 0;
+    while (i < to) {
+        unsigned bit = (bytes[i / 8] >> (i % 8)) & 1;
+        i++;
         if (bit) {
             if (++ones == 7) {
                 inside = 0;
@@ -97,11 +107,18 @@ uint64_t plain_scan(const uint8_t *bytes, size_t len, size_t from, size_t to)
             continue;
         }
         if (zero && ones == 6) {
+            size_t held = five ? 5 : 6;
             if (inside && !five && count >= 6 + 32 && count <= 6 + 168 && passes(body, count - 6))
-                sum += 1 + body[0] + body[(count - 6) / 8 - 3];
+                found = (int)(count - 6) / 8 - 2;
+            else if (inside && count >= held + 32)
+                found = -1;
             inside = 1;
             count = 0;
             five = 0;
+            if (found) {
+                ones = 0;
+                break;
+            }
         } else if (ones == 5) {
             five = 1;
         } else {
@@ -116,6 +133,25 @@ uint64_t plain_scan(const uint8_t *bytes, size_t len, size_t from, size_t to)
         }
         zero = 1;
         ones = 0;
+    }
+    f->count = count;
+    f->ones = ones;
+    f->zero = zero;
+    f->inside = inside;
+    f->five = five;
+    *at = i;
+    return found;
+}
+
+uint64_t plain_scan(const uint8_t *bytes, size_t len, size_t from, size_t to)
+{
+    struct framing f = {0};
+    uint64_t sum = 0;
+    (void)len;
+    while (from < to) {
+        int n = next_body(&f, bytes, &from, to);
+        if (n > 0)
+            sum += 1 + f.body[0] + f.body[n - 1];
     }
     return sum;
 }
@@ -238,6 +274,205 @@ uint64_t plain_blocks(uint8_t *buf, size_t len, const uint8_t *message, size_t m
             put_bit(buf, at, 1);
         for (; at % 8; at++)
             put_bit(buf, at, 0);
+    }
+    return sum;
+}
+
+/* ---- reading: packets of the circuits listed become notices and messages in the store */
+
+enum { REGION = 4096, SYSTEM_PLACE = 4 * REGION, STORE = SYSTEM_PLACE + 16 };
+
+enum kind { END, SPOILT, MALFORMED, SYSTEM, ELSEWHERE, CIRCUIT };
+enum fate { COPY, BEGUN, HELD, WHOLE, ORPHAN, WRONG };
+
+struct listed {
+    uint8_t address, extended, extension;
+};
+
+struct slot {
+    uint8_t seen, last;
+    uint16_t length, place;
+};
+
+struct receiver {
+    unsigned count;
+    struct listed circuits[4];
+    struct slot slots[4];
+    struct framing framing;
+};
+
+struct notice {
+    enum kind kind;
+    enum fate fate;
+    unsigned enable, code, number, loss;
+    size_t length;
+};
+
+/* A refusal's number or 0, the bits read and the notice. */
+struct reading {
+    unsigned refusal;
+    size_t bits;
+    struct notice notice;
+};
+
+static int same(struct listed a, struct listed b)
+{
+    return a.address == b.address && a.extended == b.extended && a.extension == b.extension;
+}
+
+static int in_range(const struct receiver *r)
+{
+    if (r->count > 4)
+        return 0;
+    for (unsigned i = 0; i < r->count; i++) {
+        const struct listed *c = &r->circuits[i];
+        const struct slot *t = &r->slots[i];
+        if (c->address == 0xff || c->extended > 1 || (!c->extended && c->extension))
+            return 0;
+        for (unsigned j = 0; j < i; j++)
+            if (same(r->circuits[j], *c))
+                return 0;
+        if (t->last > 7 || t->length > 4094 || t->place > t->length)
+            return 0;
+    }
+    return r->framing.count <= 200;
+}
+
+static int wrong_system(const uint8_t *p, size_t n, size_t lead)
+{
+    return p[1] >> 6 != 3 || p[1] & 16 || p[lead] >> 4 > 8 || (p[lead] & 15u) != n - lead - 1;
+}
+
+/* What becomes of a packet that is no copy, with its segment s of n bytes. A message stays open where `open` says so. */
+static enum fate fate_of(const struct slot *t, unsigned link, int open, const uint8_t *s, size_t n, size_t *header, size_t *length)
+{
+    *header = 0;
+    *length = t->length;
+    if (link == 2) {
+        *header = s[0] & 16 ? 2 : 1;
+        if (n < *header)
+            return WRONG;
+        *length = *header == 2 ? (s[0] & 15u) * 256 + s[1] : s[0] & 15u;
+        if (*header == 2 && (*length < 16 || *length == 4095))
+            return WRONG;
+        if (n - *header == *length)
+            return WHOLE;
+        return n == 16 && n - *header < *length ? BEGUN : WRONG;
+    }
+    if (!open)
+        return ORPHAN;
+    if (link == 0)
+        return n == 16 && t->place + 16u < t->length ? HELD : WRONG;
+    return t->place + n == t->length ? WHOLE : WRONG;
+}
+
+static struct notice hear_circuit(struct slot *t, unsigned number, uint8_t *region, const uint8_t *p, size_t n, size_t lead)
+{
+    struct notice told = {.kind = CIRCUIT, .fate = COPY, .number = number};
+    unsigned link = p[1] >> 6, index = p[1] >> 2 & 7;
+    size_t header, length, part = 0;
+    if (t->seen && index == t->last)
+        return told;
+    if (t->seen)
+        told.loss = (index - t->last - 1u) & 7;
+    told.fate = fate_of(t, link, t->place < t->length && !told.loss, p + lead, n - lead, &header, &length);
+    if (link == 2)
+        t->place = 0;
+    if (told.fate == BEGUN || told.fate == HELD || told.fate == WHOLE) {
+        part = n - lead - header;
+        memcpy(region + t->place, p + lead + header, part);
+    }
+    if (told.fate == BEGUN || told.fate == HELD) {
+        t->length = (uint16_t)length;
+        t->place = (uint16_t)(t->place + part);
+    } else {
+        t->length = t->place = 0;
+    }
+    if (told.fate == WHOLE)
+        told.length = length;
+    t->seen = 1;
+    t->last = (uint8_t)index;
+    return told;
+}
+
+static struct notice hear(struct receiver *r, uint8_t *store, const uint8_t *p, size_t n)
+{
+    struct notice told = {.kind = MALFORMED};
+    struct listed c = {p[0], p[1] >> 5 & 1, 0};
+    size_t lead = 2u + c.extended;
+    if (n <= lead)
+        return told;
+    if (p[0] == 0xff) {
+        if (wrong_system(p, n, lead))
+            return told;
+        told = (struct notice){.kind = SYSTEM, .enable = p[1] & 15, .code = p[lead] >> 4, .length = n - lead - 1};
+        memcpy(store + SYSTEM_PLACE, p + lead + 1, told.length);
+        return told;
+    }
+    if (n - lead > 16 || p[1] >> 6 == 3)
+        return told;
+    if (c.extended)
+        c.extension = p[2];
+    for (unsigned i = 0; i < r->count; i++)
+        if (same(r->circuits[i], c))
+            return hear_circuit(&r->slots[i], i, store + REGION * i, p, n, lead);
+    told.kind = ELSEWHERE;
+    return told;
+}
+
+/* A reading call: the bits from `from` to `to` up to the first notice. */
+static struct reading read_bits(struct receiver *r, uint8_t *store, size_t store_len, const uint8_t *bytes, size_t len, size_t from,
+                                size_t to)
+{
+    struct reading done = {.refusal = 0};
+    size_t at = from;
+    int n;
+    if (!in_range(r))
+        done.refusal = 14;
+    else if (store_len < STORE)
+        done.refusal = 5;
+    else if (to < from || to > 8 * len)
+        done.refusal = 15;
+    if (done.refusal)
+        return done;
+    n = next_body(&r->framing, bytes, &at, to);
+    if (n > 0)
+        done.notice = hear(r, store, r->framing.body, (size_t)n);
+    else if (n < 0)
+        done.notice.kind = SPOILT;
+    done.bits = at - from;
+    return done;
+}
+
+static uint64_t weight(const struct notice *told, const uint8_t *store)
+{
+    static const unsigned fates[] = {1, 2, 3, 6, 4, 5};
+    switch (told->kind) {
+    case END:
+        return 1;
+    case SPOILT:
+        return 2;
+    case MALFORMED:
+        return 3;
+    case SYSTEM:
+        return told->enable + told->code + told->length;
+    case ELSEWHERE:
+        return 4;
+    default:
+        return told->loss + told->number + fates[told->fate] + (told->fate == WHOLE ? told->length + store[REGION * told->number] : 0);
+    }
+}
+
+uint64_t plain_read(const uint8_t *bytes, size_t len, size_t from, size_t to, uint8_t *store, size_t store_len)
+{
+    struct receiver r = {.count = 3, .circuits = {{4, 0, 0}, {1, 0, 0}, {2, 1, 7}}};
+    uint64_t sum = 0;
+    while (from < to) {
+        struct reading done = read_bits(&r, store, store_len, bytes, len, from, to);
+        if (done.refusal)
+            break;
+        sum += weight(&done.notice, store);
+        from += done.bits;
     }
     return sum;
 }

@@ -1,4 +1,7 @@
 // The proved functions that the benchmark times, for C to call (bench/).
+
+pub mod reading;
+
 use framing::Check;
 use framing::Framing;
 use sender::Made;
