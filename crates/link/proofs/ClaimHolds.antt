@@ -15,8 +15,9 @@ use Rattle.framing.specs.Machine.{fresh as freshFraming}
 use Rattle.framing.specs.Closings.{closings}
 use Rattle.receiver.specs.Record.{region, systemPlace, storeLength, fresh}
 use Rattle.receiver.specs.Reads.{bitsOfReads}
+use Rattle.receiver.proofs.SlotsInRange.{cond-either}
 use Rattle.link.specs.Demand3.{those, allFrom, Pass, Message, frames, result, cameWhole, comes, came, messagesThatCame, fromFirstToLast, lost, receiver, lossesAt, handedOver, notices, noOtherPasses, atMostSixLost, Given, circuitAt, Demand3, Frame, originals}
-use Rattle.link.proofs.Steps.{given, toldByPackets, Laid, AllMade, packetsAt, Offer, messageOf, sentPackets, cameOf}
+use Rattle.link.proofs.Steps.{EachIs, given, toldByPackets, Laid, AllMade, packetsAt, Offer, messageOf, sentPackets, cameOf}
 use Rattle.link.proofs.ReadsHear.{losses-of-reads, handed-of-reads, short-store-reads-nothing}
 use Rattle.link.proofs.PassedAreWhole.{passed-are-whole}
 use Rattle.link.proofs.FramesMade.{list-right, frames-made}
@@ -31,13 +32,11 @@ use Rattle.link.proofs.Reassembly.{handed-thinned}
 
 -- some of the frames that the sender made are frames that it made
 AllMade-those : (test : Frame → Bool) (fs : List Frame) → AllMade fs → AllMade (those test fs)
-unfolding AllMade those
+unfolding EachIs those
 AllMade-those test [] h = tt
-AllMade-those test (f ∷ fs) h = go (test f) (AllMade-those test fs (h .1))
-  where
-    go : (b : Bool) → AllMade (those test fs) → AllMade (cond b (f ∷ []) [] ++ those test fs)
-    go true later = (h .0, later)
-    go false later = later
+AllMade-those test (f ∷ fs) h =
+    let later : AllMade (those test fs) = AllMade-those test fs (h .1) in
+    cond-either (λ l. AllMade (l ++ those test fs)) (test f) _ _ (λ _. (h .0, later)) (λ _. later)
 
 -- the texts of the messages that pass a test are those of the offers that do
 texts-of-offers : (test : Message → Bool) (os : List Offer)
@@ -104,6 +103,7 @@ module _ (p : Pass) (g : Given p) (noOther : noOtherPasses (result p) (frames p)
     mask : List Bool
     mask = cameOf (comes p k) (sentPackets k (s .offers))
 
+    -- those of which no copy was placed stand behind the last that came, and do not count
     mask-came : fromFirstToLast mask ≡ fromFirstToLast (came p k)
     unfolding mask
     mask-came = rw (s .placed) (fromFirstToLast-unplaced (came p k) (s .unplaced))
@@ -112,6 +112,7 @@ module _ (p : Pass) (g : Given p) (noOther : noOtherPasses (result p) (frames p)
     unfolding atMostSixLost k
     mask-six = rw mask-came six
 
+    -- the losses told are those between the first that came and the last
     losses-told : lossesAt n (notices p) ≡ lost (fromFirstToLast (came p k))
     unfolding k mask circuitAt whole packets-of
     losses-told =
@@ -127,6 +128,7 @@ module _ (p : Pass) (g : Given p) (noOther : noOtherPasses (result p) (frames p)
     length-area =
         rw (length-take, length-drop) (omega (arith, there, listRefusal-length (p .receiverList) (g .receiverListed), long-store .long))
 
+    -- the messages handed over are those of which every packet came
     messages-told : handedOver n (notices p) ≡ messagesThatCame p k
     unfolding k mask circuitAt whole packets-of messagesThatCame messageOf
     messages-told =

@@ -1,40 +1,31 @@
 -- Where nothing is replaced every frame comes whole, and no packet that was placed is lost.
-use Prim.Native.Nat.{ℕ, zero, suc, _+_, _-_, _≤_}
+use Prim.Native.Nat.{ℕ, zero, suc, _+_, _≤_}
 use native.Mathlib.Nat.{zero-add, add-zero}
 use native.Mathlib.Omega.{arith}
 use mathlib.Core.Bool.{Bool, true, false, not, _&&_, or-true, and-true, true≢false}
-use mathlib.Core.List.{List, [], _∷_, _++_, map, append-nil, append-assoc}
-use mathlib.Core.Option.{Option, none, some}
+use mathlib.Core.List.{List, [], _∷_, _++_, map, append-nil}
 use mathlib.Core.Path.{_≡_, refl, sym, ap, _∙_}
-use lib.ListN.{length, length-append, length-take, length-drop}
+use lib.ListN.{length, length-take, length-drop}
 use lib.Dec.{eqb}
 use borrow.Author.Tests.{eq-eqb}
 use Rattle.bits.proofs.Tests.{and-left, and-right, and-both}
-use Rattle.hdlc.specs.Frames.{flag, frame}
-use Rattle.hdlc.proofs.Ending.{length-flag}
 use Rattle.packet.specs.declared.Circuit.{Circuit}
-use Rattle.packet.specs.Circuits.{alike}
-use Rattle.sender.specs.Blocks.{System, opening}
-use Rattle.sender.specs.Queues.{Copy, Placed, placedBits}
-use Rattle.sender.specs.Calls.{TakenBlock, bitsOfBlock}
+use Rattle.sender.specs.Queues.{Copy}
 use Rattle.sender.specs.Sent.{placedAt, framesOf}
 use Rattle.receiver.proofs.SlotsInRange.{cond-either}
-use Rattle.link.specs.Demand3.{anyOf, allOf, those, kept, Pass, joinedBits, blocks, Frame, frameLength, systemFrames, placedFrames, framesIn, framesInBlocks, frames, keptBits, resulting, result, isNumber, beginWith, together, cameWhole, isCopyOf, comes, eachOnce, came, fromFirst, upToLast, fromFirstToLast, lost, atMostSixLost}
-use Rattle.link.proofs.ResultingBits.{row-together}
-use Rattle.link.proofs.Steps.{LaidAt, Laid}
+use Rattle.link.specs.Demand3.{anyOf, allOf, those, kept, Pass, joinedBits, blocks, Frame, frameLength, frames, keptBits, resulting, result, together, cameWhole, isCopyOf, comes, eachOnce, came, fromFirst, upToLast, fromFirstToLast, lost, atMostSixLost}
+use Rattle.link.proofs.ResultingBits.{begins-kept, row-together}
+use Rattle.link.proofs.SamePackets.{frameLength-pos}
+use Rattle.link.proofs.CopiesThinned.{Arrival, copiesIn, comesIn}
+use Rattle.link.proofs.SentAt.{arrives-blocks}
+use Rattle.link.proofs.Steps.{EachIs, LaidAt, Laid}
 use Rattle.link.proofs.Gaps.{gaps, gaps-worded}
 
 -- ---- bits that are kept lie together
 
-beginWith-kept : (k n : ℕ) (bs : List Bool) → k ≤ length bs → beginWith n k (keptBits n bs) ≡ true
-unfolding beginWith keptBits isNumber
-beginWith-kept zero n bs h = refl
-beginWith-kept (suc k) n [] h = absurd (omega arith)
-beginWith-kept (suc k) n (b ∷ bs) h = rw (eq-eqb n n refl) (beginWith-kept k (suc n) bs (omega arith))
-
 together-kept : (i k m : ℕ) (bs : List Bool) → i + k ≤ length bs → together (m + i) k (keptBits m bs) ≡ true
 unfolding together keptBits
-together-kept zero k m bs h = rw add-zero (row-together 0 (keptBits m bs) m k (beginWith-kept k m bs (omega arith)))
+together-kept zero k m bs h = rw add-zero (row-together 0 (keptBits m bs) m k (rw append-nil at (begins-kept k m bs [] (omega arith))))
 together-kept (suc i) k m [] h = absurd (omega arith)
 together-kept (suc i) k m (b ∷ bs) h =
     let e : m + suc i ≡ suc m + i = omega arith in
@@ -44,9 +35,7 @@ together-kept (suc i) k m (b ∷ bs) h =
 
 laid-inside : (bits : List Bool) (f : Frame) → LaidAt bits f → f .from + frameLength f ≤ length bits
 unfolding frameLength
-laid-inside bits f h =
-    let flagged : 1 ≤ frameLength f = omega (arith, length-append (flag ++ frame (f .packet)) flag, length-flag) in
-    omega (arith, simp (length-take, length-drop) at (ap length (h .there)))
+laid-inside bits f h = omega (arith, frameLength-pos f, simp (length-take, length-drop) at (ap length (h .there)))
 
 cameWhole-kept : (bits : List Bool) (f : Frame) → LaidAt bits f → cameWhole (keptBits 0 bits) f ≡ true
 unfolding cameWhole
@@ -55,7 +44,7 @@ cameWhole-kept bits f h = rw zero-add at (together-kept (f .from) (frameLength f
 -- a test that every frame there passes tells nothing beside another
 module _ (bits : List Bool) (test : Frame → Bool) (pass : (f : Frame) → LaidAt bits f → test f ≡ true) where
   anyOf-laid : (other : Frame → Bool) (fs : List Frame) → Laid bits fs → anyOf (λ f. other f && test f) fs ≡ anyOf other fs
-  unfolding anyOf Laid
+  unfolding anyOf EachIs
   anyOf-laid other [] h = refl
   anyOf-laid other (f ∷ fs) h = rw (pass f (h .0), and-true, anyOf-laid other fs (h .1))
 
@@ -111,59 +100,14 @@ gaps-all [] seen e = refl
 gaps-all (true ∷ bs) seen e = rw (or-true, gaps-all bs true e)
 gaps-all (false ∷ bs) seen e = absurd (true≢false (sym e))
 
--- ---- the frames of the copies placed
-
--- the copies placed, told by the frames
-placedOf : Option Placed → List Placed
-placedOf none = []
-placedOf (some q) = q ∷ []
-
-placedIn : List Frame → List Placed
-placedIn [] = []
-placedIn (f ∷ fs) = placedOf (f .whose) ++ placedIn fs
-
-placedIn-append : (a b : List Frame) → placedIn (a ++ b) ≡ placedIn a ++ placedIn b
-unfolding placedIn
-placedIn-append [] b = refl
-placedIn-append (f ∷ a) b = rw (placedIn-append a b) (sym (append-assoc (placedOf (f .whose)) (placedIn a) (placedIn b)))
-
-placedIn-system : (n : ℕ) (y : System) → placedIn (systemFrames n y) ≡ []
-unfolding systemFrames placedIn placedOf
-placedIn-system n y = cond-either (λ fs. placedIn fs ≡ []) (y .wanted) _ _ (λ _. refl) (λ _. refl)
-
-placedIn-placed : (qs : List Placed) (n : ℕ) → placedIn (placedFrames n qs) ≡ qs
-unfolding placedFrames placedIn placedOf
-placedIn-placed [] n = refl
-placedIn-placed (q ∷ qs) n = ap (λ (l : List Placed). q ∷ l) (placedIn-placed qs (n + length (placedBits q)))
-
-placedIn-blocks : (bs : List TakenBlock) (n : ℕ) → placedIn (framesInBlocks n bs) ≡ framesOf bs
-unfolding framesInBlocks framesIn framesOf placedIn
-placedIn-blocks [] n = refl
-placedIn-blocks (b ∷ bs) n =
-    rw (
-      placedIn-append (framesIn n b) (framesInBlocks (n + length (bitsOfBlock b)) bs),
-      placedIn-append (systemFrames n (b .system)) (placedFrames (n + length (opening (b .system)) - 8) (b .frames)),
-      placedIn-system n (b .system),
-      placedIn-placed (b .frames) (n + length (opening (b .system)) - 8),
-      placedIn-blocks bs (n + length (bitsOfBlock b)),
-    )
-
--- each copy placed at a circuit has a frame
-isIn : Circuit → List Frame → Copy → Bool
-isIn k fs c = anyOf (λ (f : Frame). isCopyOf k (c .number) (f .whose)) fs
-
-placed-isIn : (k : Circuit) (fs : List Frame) → allOf (isIn k fs) (placedAt k (placedIn fs)) ≡ true
-unfolding isIn anyOf isCopyOf allOf placedAt placedIn placedOf
-placed-isIn k [] = refl
-placed-isIn k (f ∷ fs) =
-    go (f .whose) refl (allOf-weaker (isIn k (f ∷ fs)) (isIn k fs) (λ c i. rw (i, or-true)) (placedAt k (placedIn fs)) (placed-isIn k fs))
-  where
-    go : (w : Option Placed) → f .whose ≡ w → allOf (isIn k (f ∷ fs)) (placedAt k (placedIn fs)) ≡ true
-        → allOf (isIn k (f ∷ fs)) (placedAt k (placedOf w ++ placedIn fs)) ≡ true
-    go none e later = later
-    go (some q) e later =
-        cond-either (λ l. allOf (isIn k (f ∷ fs)) (l ++ placedAt k (placedIn fs)) ≡ true) (alike k (q .circuit)) _ _
-        (λ same. and-both (isIn k (f ∷ fs) (q .copy)) _ (rw (e, same, eq-eqb (q .copy .number) (q .copy .number) refl)) later) (λ _. later)
+-- where all copies placed came whole, the packet of each comes
+comesIn-all : (l : List Arrival) → allOf (λ (a : Arrival). a .whole) l ≡ true → allOf (λ (c : Copy). comesIn l (c .number)) (copiesIn l) ≡ true
+unfolding allOf comesIn
+comesIn-all [] e = refl
+comesIn-all (a ∷ l) e =
+    and-both (comesIn (a ∷ l) (a .copy .number)) _ (rw (eq-eqb (a .copy .number) (a .copy .number) refl, and-left (a .whole) _ e))
+    (allOf-weaker (λ (c : Copy). comesIn (a ∷ l) (c .number)) (λ (c : Copy). comesIn l (c .number)) (λ c h. rw (h, or-true)) (copiesIn l)
+    (comesIn-all l (and-right (a .whole) _ e)))
 
 -- ---- the clean channel
 
@@ -185,13 +129,15 @@ module _ (p : Pass) (clean : p .pieces ≡ kept (joinedBits p) ∷ []) where
 
     -- so all that were placed come
     came-clean : (k : Circuit) → allOf (λ b. b) (came p k) ≡ true
-    unfolding came frames isIn
+    unfolding came frames
     came-clean k =
-        let cs : List Copy = placedAt k (framesOf (blocks p)) in
-        let placed : allOf (isIn k (frames p)) cs ≡ true = rw (placedIn-blocks (blocks p) 0) at (placed-isIn k (frames p)) in
-        rw (allOf-map (comes p k) (eachOnce cs))
-        (allOf-eachOnce (comes p k) cs
-        (allOf-weaker (λ (c : Copy). comes p k (c .number)) (isIn k (frames p)) (λ c h. comes-clean k (c .number) ∙ h) cs placed))
+        let a = arrives-blocks k (λ f. true) (blocks p) 0 in
+        let arrives : (i : ℕ) → comes p k i ≡ comesIn (a .arrivals) i =
+        λ i. comes-clean k i ∙ sym (anyOf-laid (joinedBits p) (λ f. true) (λ f h. refl) (λ f. isCopyOf k i (f .whose)) (frames p) laid) ∙ a .comes i in
+        rw (allOf-map (comes p k) (eachOnce (placedAt k (framesOf (blocks p)))), ← a .copies)
+        (allOf-eachOnce (comes p k) (copiesIn (a .arrivals))
+        (allOf-weaker (λ (c : Copy). comes p k (c .number)) (λ (c : Copy). comesIn (a .arrivals) (c .number)) (λ c h. arrives (c .number) ∙ h)
+        (copiesIn (a .arrivals)) (comesIn-all (a .arrivals) (a .wholes (λ f. refl)))))
 
     -- and none is lost
     pub lost-clean : (k : Circuit) → lost (fromFirstToLast (came p k)) ≡ 0

@@ -9,7 +9,7 @@ use lib.ListN.{replicate}
 use lib.Dec.{eqb}
 use borrow.Author.Tests.{eq-eqb, ne-eqb}
 use Rattle.sender.specs.Queues.{Copy}
-use Rattle.sender.specs.Sent.{Sent, copiesOf}
+use Rattle.sender.specs.Sent.{Sent, copiesOf, Numbered}
 use Rattle.link.specs.Demand3.{anyOf, those, eachOnce}
 use Rattle.link.proofs.Steps.{ThinnedBy, Thinned, cameOf}
 
@@ -29,11 +29,6 @@ comesIn (a ∷ l) i = eqb (a .copy .number) i && a .whole || comesIn l i
 unfoldable pub heardIn : List Arrival → List (List ℕ)
 heardIn [] = []
 heardIn (a ∷ l) = cond (a .whole) (a .copy .packet ∷ []) [] ++ heardIn l
-
--- packets are counted from n on
-unfoldable pub CountedFrom : ℕ → List Sent → Type 0
-CountedFrom n [] = Unit {0}
-CountedFrom n (p ∷ ps) = (p .original .number ≡ n) × CountedFrom (suc n) ps
 
 -- ---- the copies of one packet
 
@@ -105,8 +100,8 @@ pub record Arrived (comes : ℕ → Bool) (n : ℕ) (ps : List Sent) (l : List A
   pub thinned : Thinned comes ps (heardIn l)
   pub unplaced : ℕ
   pub placed : cameOf comes ps ≡ map comes (eachOnce (copiesIn l)) ++ replicate unplaced false
-  pub none-comes : (i : ℕ) → i < n → comesIn l i ≡ false
-  pub none-placed : (i : ℕ) → i < n → those (λ j. not (eqb j i)) (eachOnce (copiesIn l)) ≡ eachOnce (copiesIn l)
+  none-comes : (i : ℕ) → i < n → comesIn l i ≡ false
+  none-placed : (i : ℕ) → i < n → those (λ j. not (eqb j i)) (eachOnce (copiesIn l)) ≡ eachOnce (copiesIn l)
 
 module _ (comes : ℕ → Bool) (n : ℕ) (p : Sent) (ps : List Sent) (is : p .original .number ≡ n) where
   -- a packet of which nothing is placed, and nothing behind it
@@ -145,15 +140,15 @@ module _ (comes : ℕ → Bool) (n : ℕ) (p : Sent) (ps : List Sent) (is : p .o
       once = eachOnce-each o rest bs (later .none-placed (o .number) (omega arith))
 
 -- packets counted from n on, of whose copies some are placed and the others wait
-pub arrived : (ps : List Sent) (n : ℕ) (l : List Arrival) (waiting : List Copy) (comes : ℕ → Bool) → CountedFrom n ps
+pub arrived : (ps : List Sent) (n : ℕ) (l : List Arrival) (waiting : List Copy) (comes : ℕ → Bool) → Numbered n ps
     → copiesIn l ++ waiting ≡ copiesOf ps → ((i : ℕ) → n ≤ i → comes i ≡ comesIn l i) → Arrived comes n ps l
-unfolding CountedFrom copiesOf comesIn Thinned heardIn eachOnce those cameOf
+unfolding Numbered copiesOf comesIn Thinned heardIn eachOnce those cameOf
 arrived [] n [] waiting comes f e agree =
     record { thinned = refl; unplaced = 0; placed = refl; none-comes = λ i h. refl; none-placed = λ i h. refl }
 arrived [] n (a ∷ l) waiting comes f e agree = absurd (cons≢nil e)
 arrived (p ∷ ps) n [] waiting comes f e agree =
     arrived-none comes n p ps (f .0) (agree (p .original .number) (omega arith))
-    (arrived ps (suc n) [] (copiesOf ps) comes (f .1) refl (λ i h. agree i (omega arith)))
+    (arrived ps (suc n) [] (copiesOf ps) comes (f .2) refl (λ i h. agree i (omega arith)))
 arrived (p ∷ ps) n (a ∷ l) waiting comes f e agree =
     let s = split (p .repetition) (p .original) l waiting (copiesOf ps) (tail-eq-of-cons-eq e) in
     let bs : List Bool = a .whole ∷ s .wholes in
@@ -161,5 +156,5 @@ arrived (p ∷ ps) n (a ∷ l) waiting comes f e agree =
     let by : (i : ℕ) → n ≤ i → comes i ≡ comesIn (each (p .original) bs ++ s .rest) i = λ i h. agree i h ∙ ap (λ m. comesIn m i) parts in
     rw parts
     (arrived-some comes n p ps (f .0) (a .whole) (s .wholes) (s .rest) (by (p .original .number) (omega arith))
-    (arrived ps (suc n) (s .rest) (s .waits) comes (f .1) (s .behind)
+    (arrived ps (suc n) (s .rest) (s .waits) comes (f .2) (s .behind)
     (λ i h. by i (omega arith) ∙ comesIn-other (p .original) (s .rest) bs i (omega arith))))

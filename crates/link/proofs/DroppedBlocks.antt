@@ -1,6 +1,6 @@
 -- No frame passes but those that came whole, whatever whole blocks are dropped, and so too where nothing is: between two flags that follow each other
 -- stand a frame's bits or ones, and ones do not pass.
-use Prim.Native.Nat.{ℕ, zero, suc, _+_, _-_}
+use Prim.Native.Nat.{ℕ, zero, suc, _+_, _-_, _≤_}
 use native.Mathlib.Numerals.{add-eight}
 use native.Mathlib.Omega.{arith}
 use mathlib.Core.Bool.{Bool, true, false, cond, _||_, or-true, or-assoc, true≢false}
@@ -11,7 +11,6 @@ use mathlib.Core.Path.{_≡_, refl, sym, ap, _∙_}
 use lib.ListN.{length, replicate, length-append}
 use borrow.Author.Tests.{eq-eqb}
 use Rattle.bits.specs.Bits.{odd, lowBits, byteBits, bitsOf}
-use Rattle.bits.proofs.Tests.{and-both}
 use Rattle.hdlc.specs.Stuffing.{unstuffFrom, unstuff, endOnes}
 use Rattle.hdlc.specs.Frames.{flag, withFcs, frame}
 use Rattle.hdlc.specs.Bodies.{startsWith, holds, void, passing, judgeBits, judge}
@@ -22,18 +21,12 @@ use Rattle.sender.specs.Blocks.{opening}
 use Rattle.sender.specs.Queues.{Placed, placedBits, framesBits}
 use Rattle.sender.specs.Calls.{TakenBlock, usedIn, bitsOfBlock}
 use Rattle.link.specs.Demand3.{anyOf, Frame, frameLength, systemFrames, placedFrames, framesIn, framesInBlocks}
-use Rattle.link.specs.Demand3.{Bit, keptBits, resulting, values, isNumber, beginWith, isPassed, noOtherPasses}
+use Rattle.link.specs.Demand3.{Bit, keptBits, resulting, values, isPassed, noOtherPasses}
 use Rattle.link.specs.Channels.{droppedPieces}
+use Rattle.link.proofs.ResultingBits.{begins-kept}
 use Rattle.link.proofs.BodiesOfBlocks.{isAt, OwnAt, Own, flag-bits, own-passes}
 
 -- ---- bits that keep their numbers
-
-pub keptBits-append : (a b : List Bool) (n : ℕ) → keptBits n (a ++ b) ≡ keptBits n a ++ keptBits (n + length a) b
-unfolding keptBits
-keptBits-append [] b n = let e : n + 0 ≡ n = omega arith in rw e
-keptBits-append (x ∷ a) b n =
-    let e : n + suc (length a) ≡ suc n + length a = omega arith in
-    rw e (ap (λ (r : List Bit). record { number = some n; value = x } ∷ r) (keptBits-append a b (suc n)))
 
 pub values-kept : (a : List Bool) (n : ℕ) (bits : List Bit) → values (keptBits n a ++ bits) ≡ a ++ values bits
 unfolding values keptBits
@@ -43,11 +36,6 @@ values-kept (x ∷ a) n bits = ap (_∷_ x) (values-kept a (suc n) bits)
 values-before-flag : (y z : List Bool) (n : ℕ) (bits : List Bit)
     → values (keptBits n (y ++ (flag ++ z)) ++ bits) ≡ y ++ (flag ++ (z ++ values bits))
 values-before-flag y z n bits = values-kept (y ++ (flag ++ z)) n bits ∙ rw (append-assoc, append-assoc)
-
-begins-kept : (a z : List Bool) (n : ℕ) (bits : List Bit) → beginWith n (length a) (keptBits n (a ++ z) ++ bits) ≡ true
-unfolding beginWith keptBits isNumber
-begins-kept [] z n bits = refl
-begins-kept (x ∷ a) z n bits = and-both _ _ (eq-eqb n n refl) (begins-kept a z (suc n) bits)
 
 -- ---- where flags begin
 
@@ -160,9 +148,10 @@ own-place f z bits =
     let y : List Bool = frame (f .packet) in
     let e : flag ++ (y ++ (flag ++ z)) ≡ flag ++ y ++ flag ++ z = simp append-assoc in
     let n : length y + 16 ≡ length (flag ++ y ++ flag) = rw (length-append, length-append, length-flag) (omega arith) in
-    rw (e, eq-eqb (length y + 16) (length (flag ++ y ++ flag)) n, begins-kept (flag ++ y ++ flag) z (f .from) bits)
+    let fits : length (flag ++ y ++ flag) ≤ length (flag ++ y ++ flag ++ z) = rw (length-append (flag ++ y ++ flag) z) (omega arith) in
+    rw (e, eq-eqb (length y + 16) (length (flag ++ y ++ flag)) n, begins-kept _ (f .from) (flag ++ y ++ flag ++ z) bits fits)
 
--- some of a list's, some of more
+-- one of two lists passes a test if one of the first does or one of the second
 anyOf-append : (test : Frame → Bool) (fs gs : List Frame) → anyOf test (fs ++ gs) ≡ (anyOf test fs || anyOf test gs)
 unfolding anyOf
 anyOf-append test [] gs = refl

@@ -223,7 +223,8 @@ given-torn =
       senderBytes = Bytes-tested _ refl;
       receiverBytes = Bytes-tested _ refl;
       callBytes =
-          (Bytes-tested _ refl, (Bytes-tested _ refl, (Bytes-tested _ refl, (Bytes-tested _ refl, (Bytes-tested _ refl, (Bytes-tested _ refl, (Bytes-tested _ refl, (Bytes-tested _ refl, tt))))))));
+          let later : BytesIn (drop 4 tornCalls) = (Bytes-tested _ refl, (Bytes-tested _ refl, (Bytes-tested _ refl, (Bytes-tested _ refl, tt)))) in
+          (Bytes-tested _ refl, (Bytes-tested _ refl, (Bytes-tested _ refl, (Bytes-tested _ refl, later))));
       inPieces = torn-joined 404 3 (true ∷ false ∷ true ∷ true ∷ []) twoCircuits tornCalls refl;
       takes = computed .tornTaken;
     }

@@ -22,20 +22,17 @@ use Rattle.sender.specs.Calls.{TakenBlock, usedIn, bitsOfBlock}
 use Rattle.sender.proofs.PacketWriting.{linkOf-lt}
 use Rattle.sender.proofs.BlocksAreQueues.{blocks-are-queues}
 use Rattle.link.specs.Demand3.{Pass, joinedBits, blocks, Frame, frameLength, systemFrames, placedFrames, framesIn, framesInBlocks, frames, BytesIn}
-use Rattle.link.proofs.Steps.{Laid, Ascending, RightCircuit, Made, MadeBy, AllMade}
+use Rattle.link.proofs.Steps.{EachIs, EachIs-append, Laid, Ascending, RightCircuit, Made, MadeBy, AllMade}
 use Rattle.link.proofs.FramesMade.{frames-made}
 
 -- ---- where they lie
 
 -- each frame's bits and flags stand in bits from its number on
-There : List Bool → List Frame → Type 0
-There bits [] = Unit {0}
-There bits (f ∷ fs) = (take (frameLength f) (drop (f .from) bits) ≡ flag ++ frame (f .packet) ++ flag) × There bits fs
+abbrev ThereAt : List Bool → Frame → Type 0
+ThereAt bits f = take (frameLength f) (drop (f .from) bits) ≡ flag ++ frame (f .packet) ++ flag
 
-There-append : (bits : List Bool) (a b : List Frame) → There bits a → There bits b → There bits (a ++ b)
-unfolding There
-There-append bits [] b h g = g
-There-append bits (f ∷ a) b h g = (h .0, There-append bits a b (h .1) g)
+abbrev There : List Bool → List Frame → Type 0
+There bits fs = EachIs (ThereAt bits) fs
 
 -- a stretch that lies between others
 take-between : (pre mid post bits : List Bool) (n : ℕ) → n ≡ length pre → bits ≡ pre ++ (mid ++ post) → take (length mid) (drop n bits) ≡ mid
@@ -44,7 +41,7 @@ take-between pre mid post bits n e is = rw (e, is, drop-append-seam, take-append
 -- frames placed, behind a flag that begins with bit n
 there-placed : (ps : List Placed) (n : ℕ) (pre post bits : List Bool) → n ≡ length pre → bits ≡ pre ++ (flag ++ (framesBits ps ++ post))
     → There bits (placedFrames n ps)
-unfolding There placedFrames frameLength framesBits placedBits
+unfolding EachIs placedFrames frameLength framesBits placedBits
 there-placed [] n pre post bits e is = tt
 there-placed (p ∷ ps) n pre post bits e is =
     let f : List Bool = frame (p .copy .packet) in
@@ -60,7 +57,7 @@ systemOf y = systemPacket (y .enable) (y .code) (y .information)
 -- the frames of a block that begins with bit n, and those of blocks
 there-block : (b : TakenBlock) (n : ℕ) (pre post bits : List Bool) → n ≡ length pre → bits ≡ pre ++ (bitsOfBlock b ++ post)
     → There bits (framesIn n b)
-unfolding There framesIn systemFrames frameLength bitsOfBlock usedIn opening
+unfolding EachIs framesIn systemFrames frameLength bitsOfBlock usedIn opening
 there-block b n pre post bits e is = go (b .system .wanted) (is ∙ simp append-assoc)
   where
     packet : List ℕ
@@ -88,11 +85,11 @@ there-block b n pre post bits e is = go (b .system .wanted) (is ∙ simp append-
 
 there-blocks : (bs : List TakenBlock) (n : ℕ) (pre bits : List Bool) → n ≡ length pre → bits ≡ pre ++ flatten (map bitsOfBlock bs)
     → There bits (framesInBlocks n bs)
-unfolding There framesInBlocks flatten
+unfolding EachIs framesInBlocks flatten
 there-blocks [] n pre bits e is = tt
 there-blocks (b ∷ bs) n pre bits e is =
     let next : n + length (bitsOfBlock b) ≡ length (pre ++ bitsOfBlock b) = rw length-append (omega arith) in
-    There-append bits (framesIn n b) (framesInBlocks (n + length (bitsOfBlock b)) bs)
+    EachIs-append (ThereAt bits) (framesIn n b) (framesInBlocks (n + length (bitsOfBlock b)) bs)
     (there-block b n pre (flatten (map bitsOfBlock bs)) bits e is)
     (there-blocks bs (n + length (bitsOfBlock b)) (pre ++ bitsOfBlock b) bits next
     (is ∙ sym (append-assoc pre (bitsOfBlock b) (flatten (map bitsOfBlock bs)))))
@@ -100,18 +97,18 @@ there-blocks (b ∷ bs) n pre bits e is =
 -- ---- their packets
 
 -- bytes, 2 to 19 of them
-Right : List ℕ → Type 0
+abbrev Right : List ℕ → Type 0
 Right packet = Bytes packet × (2 ≤ length packet) × (length packet ≤ 19)
 
 -- a system packet, a copy, and what a frame has in it
 right-system : (enable code : ℕ) (information : List ℕ) → enable ≤ 15 → code ≤ 8 → length information ≤ 15 → Bytes information
     → Right (systemPacket enable code information)
-unfolding Right systemPacket Bytes
+unfolding systemPacket Bytes
 right-system enable code information e c l h = ((omega arith, (omega arith, (omega arith, h))), omega arith, omega arith)
 
-right-copyOf : (k : Circuit) (priority : ℕ) (text : List ℕ) (number part : ℕ) → RightCircuit k → priority ≤ 3 → length text ≤ 4094
+pub right-copyOf : (k : Circuit) (priority : ℕ) (text : List ℕ) (number part : ℕ) → RightCircuit k → priority ≤ 3 → length text ≤ 4094
     → Bytes text → part < packets (length text) → Right (copyOf k priority text number part .packet)
-unfolding Right copyOf
+unfolding copyOf
 right-copyOf k priority text number part r few short h inside =
     let (least, most) = length-segment text part inside in
     let l = length-packetOf k (linkOf part (packets (length text))) (number % 8) priority (segment text part) least most in (
@@ -133,7 +130,7 @@ right-made (some q) packet m =
 
 -- frames that stand in bits and have such packets
 laid : (fs : List Frame) (bits : List Bool) → AllMade fs → There bits fs → Laid bits fs
-unfolding AllMade There Laid Right
+unfolding EachIs
 laid [] bits h t = tt
 laid (f ∷ fs) bits h t =
     let r = right-made (f .whose) (f .packet) (h .0) in

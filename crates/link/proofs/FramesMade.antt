@@ -2,7 +2,7 @@
 use Prim.Native.Nat.{ℕ, zero, suc, _+_, _-_, _≤_, _<_}
 use native.Mathlib.Omega.{arith}
 use mathlib.Core.Bool.{Bool, true, false, cond}
-use mathlib.Core.List.{List, [], _∷_, _++_}
+use mathlib.Core.List.{List, [], _∷_}
 use mathlib.Core.Option.{none}
 use mathlib.Core.Path.{_≡_, refl}
 use lib.ListN.{length, getD, set, replicate, List·getD-map}
@@ -22,8 +22,8 @@ use Rattle.sender.specs.Calls.{Call, offer, block, End, accepted, afterCall, qu
 use Rattle.sender.proofs.Offers.{OfferFacts, offerRefusal-zero}
 use Rattle.sender.proofs.BlockRefusals.{accepted as block-accepted}
 use Rattle.sender.proofs.Queues.{taking-cases}
-use Rattle.link.specs.Demand3.{Pass, sender, queues, blocks, Frame, systemFrames, placedFrames, framesIn, framesInBlocks, frames, BytesIn}
-use Rattle.link.proofs.Steps.{RightCircuit, Made, MadeSystem, MadeBy, AllMade}
+use Rattle.link.specs.Demand3.{Pass, sender, queues, blocks, systemFrames, placedFrames, framesIn, framesInBlocks, frames, BytesIn}
+use Rattle.link.proofs.Steps.{EachIs, EachIs-append, RightCircuit, Made, MadeSystem, MadeBy, MadeIn, AllMade}
 
 -- ---- circuits of an accepted list of bytes
 
@@ -67,22 +67,16 @@ list-right bytes listed h c =
 -- ---- copies that wait
 
 -- each is one that the sender makes at circuit k
-MadeCopies : Circuit → List Copy → Type 0
-MadeCopies k [] = Unit {0}
-MadeCopies k (c ∷ cs) = Made k c × MadeCopies k cs
-
-MadeCopies-append : (k : Circuit) (a b : List Copy) → MadeCopies k a → MadeCopies k b → MadeCopies k (a ++ b)
-unfolding MadeCopies
-MadeCopies-append k [] b h g = g
-MadeCopies-append k (c ∷ a) b h g = (h .0, MadeCopies-append k a b (h .1) g)
+abbrev MadeCopies : Circuit → List Copy → Type 0
+MadeCopies k cs = EachIs (Made k) cs
 
 MadeCopies-replicate : (n : ℕ) (k : Circuit) (c : Copy) → Made k c → MadeCopies k (replicate n c)
-unfolding MadeCopies
+unfolding EachIs
 MadeCopies-replicate zero k c h = tt
 MadeCopies-replicate (suc n) k c h = (h, MadeCopies-replicate n k c h)
 
 MadeCopies-behindFirst : (k : Circuit) (cs : List Copy) → MadeCopies k cs → MadeCopies k (behindFirst cs)
-unfolding MadeCopies behindFirst
+unfolding EachIs behindFirst
 MadeCopies-behindFirst k [] h = h
 MadeCopies-behindFirst k (c ∷ cs) h = h .1
 
@@ -96,7 +90,7 @@ RightQueues q = (c : ℕ) → RightQueue (queueAt q c)
 
 -- fresh queues are so
 right-fresh : (cs : List Circuit) → ((c : ℕ) → RightCircuit (getD cs c noCircuit)) → RightQueues (freshQueues cs)
-unfolding RightQueues queueAt freshQueues freshQueue MadeCopies
+unfolding RightQueues queueAt freshQueues freshQueue EachIs
 right-fresh cs right c = rw (List·getD-map freshQueue cs c noCircuit) (record { circuit = right c; copies = tt })
 
 -- what holds of an element and of one that is stored holds after the storing
@@ -107,7 +101,7 @@ each-set P (x ∷ l) zero (suc c) y d new old = old
 each-set P (x ∷ l) (suc i) zero y d new old = old
 each-set P (x ∷ l) (suc i) (suc c) y d new old = each-set P l i c y d new old
 
--- and those of which a first copy is taken
+-- queues of which a first copy is taken are right again
 right-serve : (q : Queues) (d : ℕ) → RightQueues q → RightQueues (serveQueues q d)
 unfolding RightQueues queueAt serveQueues behind
 right-serve q d right c =
@@ -118,10 +112,10 @@ right-serve q d right c =
 module _ (priority : ℕ) (message : List ℕ) (few : priority ≤ 3) (short : length message ≤ 4094) (bytes : Bytes message) where
   made-copiesFrom : (n : ℕ) (k : Circuit) (times number i : ℕ) → i + n ≤ packets (length message)
       → MadeCopies k (copiesFrom k priority message times number i n)
-  unfolding copiesFrom copyOf MadeCopies
+  unfolding copiesFrom copyOf EachIs
   made-copiesFrom zero k times number i h = tt
   made-copiesFrom (suc n) k times number i h =
-      MadeCopies-append k (replicate times (copyOf k priority message number i)) (copiesFrom k priority message times (suc number) (suc i) n)
+      EachIs-append (Made k) (replicate times (copyOf k priority message number i)) (copiesFrom k priority message times (suc number) (suc i) n)
       (MadeCopies-replicate times k (copyOf k priority message number i)
       (record { text = message; part = i; is = refl; few = few; short = short; bytes = bytes; inside = omega arith }))
       (made-copiesFrom n k times (suc number) (suc i) (omega arith))
@@ -133,7 +127,7 @@ module _ (priority : ℕ) (message : List ℕ) (few : priority ≤ 3) (short : l
       (record {
         circuit = right d .circuit;
         copies =
-            MadeCopies-append (queueAt q d .circuit) (queueAt q d .copies) (messageCopies (queueAt q d) priority repetition message)
+            EachIs-append (Made (queueAt q d .circuit)) (queueAt q d .copies) (messageCopies (queueAt q d) priority repetition message)
             (right d .copies)
             (made-copiesFrom (packets (length message)) (queueAt q d .circuit) (suc repetition) (queueAt q d .sent) 0 (omega arith));
       })
@@ -142,16 +136,15 @@ module _ (priority : ℕ) (message : List ℕ) (few : priority ≤ 3) (short : l
 -- ---- frames placed
 
 -- each is of a copy made at a right circuit
-MadePlaced : List Placed → Type 0
-MadePlaced [] = Unit {0}
-MadePlaced (p ∷ ps) = (RightCircuit (p .circuit) × Made (p .circuit) (p .copy)) × MadePlaced ps
+abbrev MadePlaced : List Placed → Type 0
+MadePlaced ps = EachIs (λ (p : Placed). RightCircuit (p .circuit) × Made (p .circuit) (p .copy)) ps
 
 -- what a block takes leaves right queues
 MadeTaken : Taken → Type 0
 MadeTaken t = RightQueues (t .queues) × MadePlaced (t .frames)
 
 made-takeUpTo : (n : ℕ) (q : Queues) (at enable u : ℕ) → RightQueues q → MadeTaken (takeUpTo n q at enable u)
-unfolding takeUpTo takenNone andTaken MadeTaken MadePlaced MadeCopies RightQueues
+unfolding takeUpTo takenNone andTaken MadeTaken EachIs RightQueues
 made-takeUpTo zero q at enable u right = (right, tt)
 made-takeUpTo (suc n) q at enable u right =
     taking-cases q at u MadeTaken (pickQueue q enable) _ (right, tt)
@@ -172,19 +165,13 @@ record MadeBlock (b : TakenBlock) : Type 0 where
   system : b .system .wanted ≡ true → MadeSystem (systemPacket (b .system .enable) (b .system .code) (b .system .information))
   frames : MadePlaced (b .frames)
 
-MadeBlocks : List TakenBlock → Type 0
-MadeBlocks [] = Unit {0}
-MadeBlocks (b ∷ bs) = MadeBlock b × MadeBlocks bs
-
-MadeBlocks-append : (a b : List TakenBlock) → MadeBlocks a → MadeBlocks b → MadeBlocks (a ++ b)
-unfolding MadeBlocks
-MadeBlocks-append [] b h g = g
-MadeBlocks-append (x ∷ a) b h g = (h .0, MadeBlocks-append a b (h .1) g)
+abbrev MadeBlocks : List TakenBlock → Type 0
+MadeBlocks bs = EachIs MadeBlock bs
 
 -- a call, accepted or refused, leaves right queues and makes such blocks
 made-call : (call : Call) (e : End) (q : Queues) (b : Bool) → accepted e call ≡ b → BytesIn (call ∷ []) → RightQueues q
     → RightQueues (cond b (queuesAfterAccepted q call) q) × MadeBlocks (cond b (taken q call) [])
-unfolding accepted BytesIn queuesAfterAccepted taken MadeBlocks MadeTaken
+unfolding accepted BytesIn queuesAfterAccepted taken EachIs MadeTaken
 made-call (offer c priority repetition message) e q true a h right =
     let f : OfferFacts (e .sender) (e .store) c priority repetition message =
     offerRefusal-zero (e .sender) (e .store) c priority repetition message
@@ -216,49 +203,45 @@ made-call (block n u buffer y) e q true a h right =
     )
 made-call (block n u buffer y) e q false a h right = (right, tt)
 
--- a list of calls
-BytesIn-cons : (call : Call) (calls : List Call) → BytesIn (call ∷ calls) → BytesIn (call ∷ []) × BytesIn calls
+-- what the first call of a list is lent, and what the others are
+pub BytesIn-cons : (call : Call) (calls : List Call) → BytesIn (call ∷ calls) → BytesIn (call ∷ []) × BytesIn calls
 unfolding BytesIn
 BytesIn-cons (offer c priority repetition message) calls h = ((h .0, tt), h .1)
 BytesIn-cons (block n u buffer y) calls h = ((h .0, tt), h .1)
 
+-- a list of calls
 made-calls : (calls : List Call) (e : End) (q : Queues) → BytesIn calls → RightQueues q → MadeBlocks (blocksTaken e q calls)
-unfolding blocksTaken queuesAfterCall MadeBlocks
+unfolding blocksTaken queuesAfterCall EachIs
 made-calls [] e q h right = tt
 made-calls (call ∷ calls) e q h right =
     let (here, later) = BytesIn-cons call calls h in
     let (after, made) = made-call call e q (accepted e call) refl here right in
-    MadeBlocks-append (cond (accepted e call) (taken q call) []) (blocksTaken (afterCall e call) (queuesAfterCall e q call) calls) made
+    EachIs-append MadeBlock (cond (accepted e call) (taken q call) []) (blocksTaken (afterCall e call) (queuesAfterCall e q call) calls) made
     (made-calls calls (afterCall e call) (queuesAfterCall e q call) later after)
 
 -- ---- the frames of blocks
 
 -- a system packet's frame, frames placed, and those of blocks
-AllMade-append : (a b : List Frame) → AllMade a → AllMade b → AllMade (a ++ b)
-unfolding AllMade
-AllMade-append [] b h g = g
-AllMade-append (f ∷ a) b h g = (h .0, AllMade-append a b (h .1) g)
-
 made-system : (n : ℕ) (y : System) (w : Bool) → (w ≡ true → MadeSystem (systemPacket (y .enable) (y .code) (y .information)))
     → AllMade (cond w (record { from = n; packet = systemPacket (y .enable) (y .code) (y .information); whose = none } ∷ []) [])
-unfolding AllMade MadeBy
+unfolding EachIs MadeBy
 made-system n y true h = (h refl, tt)
 made-system n y false h = tt
 
 made-placed : (ps : List Placed) (n : ℕ) → MadePlaced ps → AllMade (placedFrames n ps)
-unfolding MadePlaced placedFrames AllMade MadeBy
+unfolding EachIs placedFrames MadeBy
 made-placed [] n h = tt
 made-placed (p ∷ ps) n h = ((refl, h .0 .0, h .0 .1), made-placed ps (n + length (placedBits p)) (h .1))
 
 made-blocks : (bs : List TakenBlock) (n : ℕ) → MadeBlocks bs → AllMade (framesInBlocks n bs)
-unfolding MadeBlocks framesInBlocks framesIn systemFrames AllMade
+unfolding EachIs framesInBlocks framesIn systemFrames
 made-blocks [] n h = tt
 made-blocks (b ∷ bs) n h =
     let y : System = b .system in
     let m : ℕ = n + length (opening y) - 8 in
     let next : ℕ = n + length (bitsOfBlock b) in
-    AllMade-append (framesIn n b) (framesInBlocks next bs)
-    (AllMade-append (systemFrames n y) (placedFrames m (b .frames))
+    EachIs-append MadeIn (framesIn n b) (framesInBlocks next bs)
+    (EachIs-append MadeIn (systemFrames n y) (placedFrames m (b .frames))
     (made-system n y (y .wanted) (h .0 .system)) (made-placed (b .frames) m (h .0 .frames)))
     (made-blocks bs next (h .1))
 

@@ -10,8 +10,8 @@ pub mod MadePackets
 pub mod OneCircuit
 pub mod CopiesThinned
 pub mod OffersAt
-pub mod SentAt
 pub mod Numbering
+pub mod SentAt
 pub mod Gaps
 pub mod Losses
 pub mod MessageParts

@@ -82,20 +82,20 @@ lossesHeard-packet k t p rest n e later =
     rw e (ap (_+_ (lossOf t p)) (lossesHeard-copies k u p rest h ∙ later u h))
 
 -- the index of a packet is that which the sender counts
-index-in : (p : List ℕ) → index p ≡ indexIn p
+pub index-in : (p : List ℕ) → index p ≡ indexIn p
 unfolding index control indexIn
 index-in p = refl
 
 -- a packet of number n, where one of number a came and d were lost since
-module _ (t : Slot) (p : List ℕ) (n a d : ℕ) (seen : t .seen ≡ true) (last : t .last ≡ a % 8) (here : indexIn p ≡ n % 8) (next : n ≡ a + 1 + d)
+module _ (t : Slot) (p : List ℕ) (n a d : ℕ) (seen : t .seen ≡ true) (last : t .last ≡ a % 8) (here : index p ≡ n % 8) (next : n ≡ a + 1 + d)
     (few : d ≤ 6) where
-  isCopy-next : isCopy t p ≡ false
+  pub isCopy-next : isCopy t p ≡ false
   unfolding isCopy
-  isCopy-next = rw seen (ne-eqb (index p) (t .last) (λ e. omega (arith, index-in p)))
+  isCopy-next = rw seen (ne-eqb (index p) (t .last) (omega arith))
 
-  lossOf-next : lossOf t p ≡ d
+  pub lossOf-next : lossOf t p ≡ d
   unfolding lossOf
-  lossOf-next = rw seen (omega (arith, index-in p))
+  lossOf-next = rw seen (omega arith)
 
 -- ---- the packets sent
 
@@ -127,7 +127,7 @@ module _ (comes : ℕ → Bool) where
       lossesHeard t heard ≡ lostBehind d (cameOf comes ps)
 
   -- a packet that comes, and what follows
-  losses-came : (t : Slot) (p : List ℕ) (n : ℕ) (ps : List Sent) (heard : List (List ℕ)) → isCopy t p ≡ false → indexIn p ≡ n % 8
+  losses-came : (t : Slot) (p : List ℕ) (n : ℕ) (ps : List Sent) (heard : List (List ℕ)) → isCopy t p ≡ false → index p ≡ n % 8
       → ThinnedBy true p (Thinned comes ps) heard → gaps true 0 (cameOf comes ps) ≡ true → AddsUp n 0 ps
       → lossesHeard t heard ≡ lossOf t p + lost (upToLast (cameOf comes ps))
   unfolding ThinnedBy AddsUp
@@ -135,7 +135,7 @@ module _ (comes : ℕ → Bool) where
       let (copies, rest, is, thin) = thinned in
       rw is
       (lossesHeard-packet copies t p rest (lost (upToLast (cameOf comes ps))) new
-      (λ u h. later u rest (h .seen) (h .last ∙ index-in p ∙ here) thin few ∙ lostBehind-zero (cameOf comes ps)))
+      (λ u h. later u rest (h .seen) (h .last ∙ here) thin few ∙ lostBehind-zero (cameOf comes ps)))
 
   -- one came
   losses-seen : (ps : List Sent) (n a d : ℕ) → n ≡ a + 1 + d → Numbered n ps → AddsUp a d ps
@@ -149,9 +149,10 @@ module _ (comes : ℕ → Bool) where
           → AddsUp n 0 ps → AddsUp a (suc d) ps → lossesHeard t heard ≡ lostBehind d (b ∷ cameOf comes ps)
       go true thin few came gone =
           let six : d ≤ 6 = leb-true d 6 (and-left (leb d 6) (gaps true 0 (cameOf comes ps)) few) in
-          losses-came t (p .original .packet) n ps heard (isCopy-next t (p .original .packet) n a d seen last (numbers .1) next six) (numbers .1) thin
+          let here : index (p .original .packet) ≡ n % 8 = index-in (p .original .packet) ∙ numbers .1 in
+          losses-came t (p .original .packet) n ps heard (isCopy-next t (p .original .packet) n a d seen last here next six) here thin
           (and-right (leb d 6) (gaps true 0 (cameOf comes ps)) few) came
-          ∙ rw (lossOf-next t (p .original .packet) n a d seen last (numbers .1) next six)
+          ∙ rw (lossOf-next t (p .original .packet) n a d seen last here next six)
       go false thin few came gone = gone t heard seen last thin few ∙ lostBehind-suc (cameOf comes ps) d
 
   -- none came yet
@@ -166,7 +167,8 @@ module _ (comes : ℕ → Bool) where
           → (Thinned comes ps heard → gaps false (suc d) (cameOf comes ps) ≡ true → lossesHeard freshSlot heard ≡ lost (upToLast (fromFirst (cameOf comes ps))))
           → lossesHeard freshSlot heard ≡ lost (upToLast (fromFirst (b ∷ cameOf comes ps)))
       go true thin few gone =
-          losses-came freshSlot (p .original .packet) n ps heard refl (numbers .1) thin few (losses-seen ps (suc n) n 0 (omega arith) (numbers .2))
+          losses-came freshSlot (p .original .packet) n ps heard refl (index-in (p .original .packet) ∙ numbers .1) thin few
+          (losses-seen ps (suc n) n 0 (omega arith) (numbers .2))
           ∙ zero-add (lost (upToLast (cameOf comes ps)))
       go false thin few gone = gone thin few
 

@@ -1,5 +1,5 @@
--- A packet that the sender makes, taken apart by the receiver's definitions: it is not malformed, and has the circuit, the link number, the index and
--- the segment that it was made of, or the information.
+-- A packet that the sender makes, taken apart by the receiver's definitions: it is not malformed, and has the circuit, the link number and the segment
+-- that it was made of, or the information.
 use Prim.Native.Nat.{ℕ, _+_, _*_, _/_, _%_, _≤_, _<_}
 use native.Mathlib.Omega.{arith}
 use mathlib.Core.Bool.{Bool, true, false, cond}
@@ -12,7 +12,7 @@ use Rattle.packet.specs.declared.Circuit.{Circuit}
 use Rattle.packet.specs.Messages.{linkOf}
 use Rattle.packet.specs.Packets.{extensionOf, packetOf, systemPacket}
 use Rattle.packet.specs.Packets.{control as controlOf}
-use Rattle.receiver.specs.Packets.{address, control, link, extended, index, lead, segment, circuitIn, descriptor, code, information, malformedSystem, malformed}
+use Rattle.receiver.specs.Packets.{address, control, link, extended, lead, segment, circuitIn, descriptor, code, information, malformedSystem, malformed}
 use Rattle.receiver.proofs.PacketParts.{length-segment}
 use Rattle.link.proofs.Steps.{RightCircuit}
 
@@ -45,10 +45,6 @@ module _ (k : Circuit) (right : RightCircuit k) (l i y : ℕ) (s : List ℕ) (l-
   extended-made : extended (packetOf k l i y s) ≡ k .extended
   unfolding extended
   extended-made = omega (arith, control-made, right .extended)
-
-  pub index-made : index (packetOf k l i y s) ≡ i
-  unfolding index
-  index-made = omega (arith, control-made, right .extended)
 
   -- the segment and the circuit, without an extension byte and with one
   pub segment-made : segment (packetOf k l i y s) ≡ s
@@ -111,7 +107,7 @@ module _ (e c : ℕ) (v : List ℕ) where
     unfolding segment lead systemPacket
     system-segment = rw system-extended
 
-    pub system-information : information (systemPacket e c v) ≡ v
+    system-information : information (systemPacket e c v) ≡ v
     unfolding information
     system-information = rw system-segment
 

@@ -1,12 +1,11 @@
 -- What calls send at one circuit, listed or not: the messages and the copies sent there are those of right offers, whose packets are counted from 0
 -- on.
-use Prim.Native.Nat.{ℕ, zero, suc, _+_, _≤_, _<_}
-use native.Mathlib.Nat.{add-zero, add-suc}
+use Prim.Native.Nat.{ℕ, zero, suc, _≤_, _<_}
 use native.Mathlib.Omega.{arith}
 use mathlib.Core.Bool.{Bool, true, false, cond}
-use mathlib.Core.List.{List, [], _∷_, _++_, map, append-assoc}
+use mathlib.Core.List.{List, [], _∷_, _++_, map}
 use mathlib.Core.Path.{_≡_, refl, sym, ap, _∙_}
-use lib.ListN.{length, getD, replicate, length-map, List·getD-map}
+use lib.ListN.{length, getD, length-map, List·getD-map}
 use lib.Dec.{eqb, eqb·zero-suc, eqb·suc-zero, eqb·suc-suc}
 use borrow.Author.Tests.{eqb-true, eqb-false}
 use Rattle.bits.specs.Bits.{Bytes}
@@ -17,16 +16,17 @@ use Rattle.packet.specs.Messages.{packets}
 use Rattle.packet.proofs.CircuitLists.{alike-is, some-circuit-each}
 use Rattle.sender.specs.Offering.{offerRefusal}
 use Rattle.sender.specs.Blocks.{enableBits, opening}
-use Rattle.sender.specs.Queues.{Copy, Queue, Queues, freshQueue, freshQueues, queueAt, copyOf, copiesFrom, messageCopies, offered, offerQueues, behind}
+use Rattle.sender.specs.Queues.{Copy, Queue, Queues, freshQueue, freshQueues, queueAt, messageCopies, offered, offerQueues, behind}
 use Rattle.sender.specs.Calls.{Call, offer, block, End, freshEnd, accepted, afterCall, queuesAfterAccepted, queuesAfterCall}
 use Rattle.sender.specs.Sent.{sends, copiesSent, Sent, copiesOf}
 use Rattle.sender.specs.Stands.{Stands}
 use Rattle.sender.proofs.Offers.{OfferFacts, offerRefusal-zero}
 use Rattle.sender.proofs.Queues.{queueAt-offer, queueAt-offer-other, offer-circuit, length-offer, takeFrames-keeps, length-takeFrames}
+use Rattle.sender.proofs.IndexCounts.{copiesOf-append, copiesFrom-packetsFrom}
 use Rattle.sender.proofs.StandsCalls.{stands-fresh, stands-call}
 use Rattle.link.specs.Demand3.{Message, sentBy, sentByCalls, BytesIn}
-use Rattle.link.proofs.Steps.{Offer, messageOf, packetsFrom, sentPackets, Offered}
-use Rattle.link.proofs.CopiesThinned.{CountedFrom}
+use Rattle.link.proofs.Steps.{Offer, messageOf, packetsOf, sentPackets, Offered}
+use Rattle.link.proofs.FramesMade.{BytesIn-cons}
 
 -- ---- the number of a circuit
 
@@ -85,33 +85,12 @@ module _ (cs : List Circuit) (q : Queues) (h : Lists cs q) where
       go true = lists-accepted call
       go false = h
 
--- ---- an offer's packets
-
-module _ (k : Circuit) (o : Offer) (rest : List Sent) where
-  -- they are counted
-  from-packets : (n i : ℕ) → CountedFrom (o .first + i + n) rest → CountedFrom (o .first + i) (packetsFrom k o i n ++ rest)
-  unfolding CountedFrom packetsFrom copyOf
-  from-packets zero i h = rw add-zero at h
-  from-packets (suc n) i h =
-      let same : o .first + i + suc n ≡ o .first + suc i + n = omega arith in
-      (refl, rw add-suc at (from-packets n (suc i) (rw same at h)))
-
-  -- their copies
-  copies-packets : (n i : ℕ)
-      → copiesFrom k (o .priority) (o .text) (suc (o .repetition)) (o .first + i) i n ++ copiesOf rest ≡ copiesOf (packetsFrom k o i n ++ rest)
-  unfolding copiesFrom packetsFrom copiesOf
-  copies-packets zero i = refl
-  copies-packets (suc n) i =
-      let first : List Copy = replicate (suc (o .repetition)) (copyOf k (o .priority) (o .text) (o .first + i) i) in
-      append-assoc first _ (copiesOf rest) ∙ ap (_++_ first) (rw add-suc at (copies-packets n (suc i)))
-
 -- ---- what calls send
 
--- the messages and the copies of right offers at circuit k, the packets of which are counted from n on
+-- the messages and the copies of right offers at circuit k, whose packets are counted from n on
 pub record OffersOf (k : Circuit) (n : ℕ) (ms : List Message) (copies : List Copy) : Type 0 where
   pub offers : List Offer
   pub right : Offered n offers
-  pub counted : CountedFrom n (sentPackets k offers)
   pub sent : ms ≡ map messageOf offers
   pub copied : copies ≡ copiesOf (sentPackets k offers)
 
@@ -119,25 +98,18 @@ pub record OffersOf (k : Circuit) (n : ℕ) (ms : List Message) (copies : List C
 offers-message : (k : Circuit) (q : Queue) (priority repetition : ℕ) (text : List ℕ) (ms : List Message) (copies : List Copy)
     → q .circuit ≡ k → priority ≤ 3 → length text ≤ 4094 → Bytes text → OffersOf k (offered q priority repetition text .sent) ms copies
     → OffersOf k (q .sent) (record { text = text; first = q .sent } ∷ ms) (messageCopies q priority repetition text ++ copies)
-unfolding offered messageCopies Offered sentPackets messageOf
+unfolding offered messageCopies Offered packetsOf sentPackets messageOf
 offers-message k q priority repetition text ms copies is few short bytes later =
     let o : Offer = record { text = text; first = q .sent; priority = priority; repetition = repetition } in
-    let n : ℕ = packets (length text) in
     let rest : List Sent = sentPackets k (later .offers) in
-    let behind : CountedFrom (q .sent + 0 + n) rest = rw add-zero (later .counted) in
     record {
       offers = o ∷ later .offers;
       right = (refl, few, short, bytes, later .right);
-      counted = rw add-zero at (from-packets k o rest n 0 behind);
       sent = ap (λ l. record { text = text; first = q .sent } ∷ l) (later .sent);
-      copied = rw (is, later .copied) (rw add-zero at (copies-packets k o rest n 0));
+      copied =
+          rw (is, later .copied, copiesFrom-packetsFrom k priority text repetition (packets (length text)) (q .sent) 0)
+          (sym (copiesOf-append (packetsOf k o) rest));
     }
-
--- what later calls are lent is bytes
-bytes-behind : (call : Call) (calls : List Call) → BytesIn (call ∷ calls) → BytesIn calls
-unfolding BytesIn
-bytes-behind (offer d priority repetition text) calls bytes = bytes .1
-bytes-behind (block n u buffer y) calls bytes = bytes .1
 
 module _ (cs : List Circuit) (k : Circuit) (c : ℕ) (number : Number cs k c) where
   -- a call that is accepted
@@ -176,12 +148,12 @@ module _ (cs : List Circuit) (k : Circuit) (c : ℕ) (number : Number cs k c) wh
   -- all calls
   offers-calls : (calls : List Call) (e : End) (q : Queues) → Stands (e .sender) (e .store) q → Lists cs q → BytesIn calls
       → OffersOf k (queueAt q c .sent) (sentByCalls e q calls k) (copiesSent e q calls c)
-  unfolding sentByCalls copiesSent queuesAfterCall Offered CountedFrom sentPackets copiesOf
-  offers-calls [] e q h l bytes = record { offers = []; right = tt; counted = tt; sent = refl; copied = refl }
+  unfolding sentByCalls copiesSent queuesAfterCall Offered sentPackets copiesOf
+  offers-calls [] e q h l bytes = record { offers = []; right = tt; sent = refl; copied = refl }
   offers-calls (call ∷ calls) e q h l bytes =
       let q′ : Queues = queuesAfterCall e q call in
       go (accepted e call) refl
-      (offers-calls calls (afterCall e call) q′ (stands-call call e q h) (lists-call cs q l e call) (bytes-behind call calls bytes))
+      (offers-calls calls (afterCall e call) q′ (stands-call call e q h) (lists-call cs q l e call) (BytesIn-cons call calls bytes .1))
     where
       ms : List Message
       ms = sentByCalls (afterCall e call) (queuesAfterCall e q call) calls k

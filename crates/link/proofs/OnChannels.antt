@@ -10,6 +10,7 @@ use Rattle.packet.specs.Messages.{packets}
 use Rattle.sender.proofs.BlocksAreQueues.{blocks-are-queues}
 use Rattle.link.specs.Demand3.{those, Pass, Message, messages, joinedBits, blocks, frames, result, comes, came, allFrom, messagesThatCame, lossesAt, handedOver, notices, Given, noOtherPasses, atMostSixLost, circuitAt, Claim, Demand3}
 use Rattle.link.specs.Channels.{Clean, isPlaced, droppedPieces, OnesOnly}
+use Rattle.link.proofs.Steps.{Laid}
 use Rattle.link.proofs.FramesLaid.{frames-laid}
 use Rattle.link.proofs.ClaimHolds.{demand-3}
 use Rattle.link.proofs.CleanChannel.{comes-clean, lost-clean, atMostSixLost-clean}
@@ -17,11 +18,12 @@ use Rattle.link.proofs.DroppedBlocks.{dropped-blocks}
 use Rattle.link.proofs.ReplacedByOnes.{replaced-by-ones}
 
 module _ (p : Pass) (g : Given p) (n : ℕ) (there : n < length (circuitsOf (p .receiverList))) where
+  -- whole blocks are dropped
   pub claim-dropped : (keep : List Bool) → p .pieces ≡ droppedPieces keep (blocks p) → atMostSixLost (came p (circuitAt p n)) ≡ true → Claim p n
   unfolding Demand3 result frames blocks
   claim-dropped keep e six = demand-3 p g (rw e (dropped-blocks (blocks p) keep)) n there six
 
-  -- no frame passes but those that came whole
+  -- seven or more ones stand for each stretch that is replaced: no frame passes but those that came whole
   noOther-ones : OnesOnly (p .pieces) → noOtherPasses (result p) (frames p) ≡ true
   unfolding result frames joinedBits blocks
   noOther-ones ones =
@@ -32,15 +34,18 @@ module _ (p : Pass) (g : Given p) (n : ℕ) (there : n < length (circuitsOf (p .
   unfolding Demand3
   claim-ones ones six = demand-3 p g (noOther-ones ones) n there six
 
+  laid : Laid (joinedBits p) (frames p)
+  laid = frames-laid p (g .senderListed) (g .senderBytes) (g .callBytes)
+
+  -- nothing is replaced
   module _ (clean : Clean p) where
     claim-clean : Claim p n
     unfolding OnesOnly Clean
-    claim-clean =
-        claim-ones (rw clean tt) (atMostSixLost-clean p clean (frames-laid p (g .senderListed) (g .senderBytes) (g .callBytes)) (circuitAt p n))
+    claim-clean = claim-ones (rw clean tt) (atMostSixLost-clean p clean laid (circuitAt p n))
 
     pub clean-losses : lossesAt n (notices p) ≡ 0
     unfolding Clean
-    clean-losses = claim-clean .losses ∙ lost-clean p clean (frames-laid p (g .senderListed) (g .senderBytes) (g .callBytes)) (circuitAt p n)
+    clean-losses = claim-clean .losses ∙ lost-clean p clean laid (circuitAt p n)
 
     pub clean-handed :
         handedOver n (notices p) ≡
@@ -49,7 +54,7 @@ module _ (p : Pass) (g : Given p) (n : ℕ) (there : n < length (circuitsOf (p .
     unfolding Clean messagesThatCame isPlaced
     clean-handed =
         let placed : comes p (circuitAt p n) ≡ isPlaced p (circuitAt p n) =
-        λ j i. comes-clean p clean (frames-laid p (g .senderListed) (g .senderBytes) (g .callBytes)) (circuitAt p n) i j in
+        λ j i. comes-clean p clean laid (circuitAt p n) i j in
         claim-clean .handed
         ∙ ap (λ test. map (λ (m : Message). m .text)
         (those (λ (m : Message). allFrom test (m .first) (packets (length (m .text)))) (messages p (circuitAt p n)))) placed

@@ -20,8 +20,6 @@ use Rattle.packet.specs.Messages.{packets, linkOf}
 use Rattle.packet.specs.Messages.{segment as segmentOf}
 use Rattle.packet.specs.Packets.{packetOf, systemPacket}
 use Rattle.packet.proofs.CircuitLists.{alike-is, alike-self, circuitsRefusal-zero, some-circuit-each, listRefusal-length, listed-listing, listing-refusal}
-use Rattle.packet.proofs.PacketBytes.{packetOf-Bytes}
-use Rattle.packet.proofs.Segments.{segment-Bytes}
 use Rattle.packet.proofs.Segments.{length-segment as length-segmentOf}
 use Rattle.sender.specs.Queues.{Copy, copyOf, Placed}
 use Rattle.receiver.specs.declared.Slot.{Slot}
@@ -39,7 +37,8 @@ use Rattle.receiver.proofs.PacketParts.{right-segment}
 use Rattle.receiver.proofs.Fates.{slotInRange-facts}
 use Rattle.receiver.proofs.Hearings.{found-slot, heard-system, heard-elsewhere, heard-circuit}
 use Rattle.link.specs.Demand3.{Frame, isNumber, lossAt, lossesAt, handedFrom, handedAt, handedOver}
-use Rattle.link.proofs.Steps.{toldByPackets, RightCircuit, Made, MadeBy, AllMade, isOf, packetsAt, lossesHeard, handedHeard}
+use Rattle.link.proofs.Steps.{EachIs, toldByPackets, RightCircuit, Made, MadeBy, AllMade, isOf, packetsAt, lossesHeard, handedHeard}
+use Rattle.link.proofs.FramesLaid.{right-copyOf}
 use Rattle.link.proofs.MadePackets.{linkOf-lt, address-made, circuitIn-made, malformed-made, system-address, system-malformed}
 
 -- ---- regions
@@ -126,15 +125,15 @@ record Inside (t : Slot) (p : List ℕ) (f : Fate) : Type 0 where
 module _ (t : Slot) (p : List ℕ) where
   -- a copy, an orphan and a wrong packet write nothing
   inside-copy : Inside t p CopyFate
-  unfolding storeAfter handedFrom region
+  unfolding storeAfter handedFrom
   inside-copy = record { place = 0; part = []; fits = omega arith; writes = λ c store. refl; hands = λ c store. refl }
 
   inside-orphan : Inside t p Orphan
-  unfolding storeAfter handedFrom region
+  unfolding storeAfter handedFrom
   inside-orphan = record { place = 0; part = []; fits = omega arith; writes = λ c store. refl; hands = λ c store. refl }
 
   inside-wrong : Inside t p Wrong
-  unfolding storeAfter handedFrom region
+  unfolding storeAfter handedFrom
   inside-wrong = record { place = 0; part = []; fits = omega arith; writes = λ c store. refl; hands = λ c store. refl }
 
   -- the others write the packet's message bytes
@@ -347,8 +346,7 @@ made-packet k c right m =
       right = malformed-made k right l (c .number % 8) (c .priority) v l-lt i-lt y-lt least most;
       plain = eqb-false _ 0xff (address-made k right l (c .number % 8) (c .priority) v l-lt i-lt y-lt);
       circuit = circuitIn-made k right l (c .number % 8) (c .priority) v l-lt i-lt y-lt;
-      bytes = packetOf-Bytes k l (c .number % 8) (c .priority) v (omega (arith, right .address)) (right .extended) (right .extension) (omega arith) i-lt y-lt
-          (segment-Bytes (m .text) (m .part) (m .short) (m .bytes));
+      bytes = right-copyOf k (c .priority) (m .text) (c .number) (m .part) right (m .few) (m .short) (m .bytes) (m .inside) .0;
     })
 
 -- ---- frames
@@ -380,7 +378,7 @@ module _ (cs : Circuits) (n : ℕ) (n-lt : n < 4) (k : Circuit) (is : (d : Circu
   heard-frames : (fs : List Frame) (r : Receiver) (store : List ℕ) → AllMade fs → Ready cs r
       → (lossesAt n (toldByPackets r store (map (λ (f : Frame). f .packet) fs)) ≡ lossesHeard (slotAt r n) (packetsAt k fs))
       × (handedOver n (toldByPackets r store (map (λ (f : Frame). f .packet) fs)) ≡ handedHeard (slotAt r n) (area n store) (packetsAt k fs))
-  unfolding AllMade toldByPackets packetsAt lossesAt handedOver lossesHeard handedHeard
+  unfolding EachIs toldByPackets packetsAt lossesAt handedOver lossesHeard handedHeard
   heard-frames [] r store m s = (refl, refl)
   heard-frames (f ∷ fs) r store m s =
       let h : Heard = heard r store (f .packet) in

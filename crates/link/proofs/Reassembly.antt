@@ -4,24 +4,26 @@ use native.Mathlib.Omega.{arith}
 use mathlib.Core.Bool.{Bool, true, false, cond, not, _&&_, _||_, and-false}
 use mathlib.Core.List.{List, [], _∷_, _++_, map}
 use mathlib.Core.Path.{_≡_, refl, sym, ap, _∙_}
-use borrow.Author.Tests.{ne-eqb, leb-true}
+use borrow.Author.Tests.{leb-true}
 use lib.Dec.{leb, eqb, eqb·suc-zero}
 use lib.ListN.{length, take, replicate}
 use Rattle.bits.proofs.Tests.{and-left, and-right}
 use Rattle.packet.specs.declared.Circuit.{Circuit}
-use Rattle.packet.specs.Messages.{header, partFrom, packets, linkOf}
+use Rattle.packet.specs.Messages.{header, partFrom, packets}
 use Rattle.packet.specs.Messages.{segment as segmentOf}
 use Rattle.packet.proofs.Segments.{length-header}
 use Rattle.sender.specs.Queues.{copyOf}
 use Rattle.sender.specs.Sent.{Sent}
+use Rattle.sender.proofs.IndexCounts.{indexIn-copyOf, packetsFrom}
 use Rattle.receiver.specs.declared.Slot.{Slot}
 use Rattle.receiver.specs.Record.{region, freshSlot, open-message}
 use Rattle.receiver.specs.Packets.{index}
 use Rattle.receiver.specs.Notices.{isCopy, lossOf, stillOpen, closedSlot}
 use Rattle.link.specs.Demand3.{those, allFrom, atMostSixLost}
-use Rattle.link.proofs.Steps.{RightCircuit, handedHeard, Offer, packetsFrom, sentPackets, Offered, ThinnedBy, Thinned, cameOf}
+use Rattle.link.proofs.Steps.{RightCircuit, handedHeard, Offer, packetsOf, sentPackets, Offered, ThinnedBy, Thinned, cameOf}
 use Rattle.link.proofs.Gaps.{gaps, gaps-given}
-use Rattle.link.proofs.MadePackets.{linkOf-lt, link-made, index-made, segment-made}
+use Rattle.link.proofs.MadePackets.{linkOf-lt, link-made, segment-made}
+use Rattle.link.proofs.Losses.{index-in, isCopy-next, lossOf-next}
 use Rattle.link.proofs.MessageParts.{Carries, Due, heldSlot, withPart, length-withPart, heard-end, heard-more, written-more, heard-orphan}
 
 -- ---- between two packets of a circuit, where the next has number i
@@ -61,14 +63,13 @@ known-lost t i d k = go (t .seen) k
 next-told : (t : Slot) (p : List ℕ) (i d : ℕ) (bs : List Bool) → index p ≡ i % 8 → KnownBy (t .seen) t i d → gaps (t .seen) d (true ∷ bs) ≡ true
     → (isCopy t p ≡ false) × (lossOf t p ≡ due t d)
 unfolding KnownBy isCopy lossOf due gaps
-next-told t p i d bs is = go (t .seen)
+next-told t p i d bs is = go (t .seen) refl
   where
-    go : (b : Bool) → KnownBy b t i d → gaps b d (true ∷ bs) ≡ true
-        → ((b && eqb (index p) (t .last)) ≡ false) × (cond b ((index p + 8 - t .last - 1) % 8) 0 ≡ cond b d 0)
-    go false k g = (refl, refl)
-    go true (a, last, count) g =
+    go : (b : Bool) → t .seen ≡ b → KnownBy b t i d → gaps b d (true ∷ bs) ≡ true → (isCopy t p ≡ false) × (lossOf t p ≡ cond b d 0)
+    go false none k g = (rw none, rw none)
+    go true seen (a, last, count) g =
         let few : d ≤ 6 = leb-true d 6 (and-left (leb d 6) (gaps true 0 bs) g) in
-        (ne-eqb (index p) (t .last) (omega arith), omega arith)
+        (isCopy-next t p i a d seen last is (sym count) few, lossOf-next t p i a d seen last is (sym count) few)
 
 -- behind it none is lost yet
 gaps-rest : (seen : Bool) (d : ℕ) (bs : List Bool) → gaps seen d (true ∷ bs) ≡ true → gaps true 0 bs ≡ true
@@ -157,86 +158,87 @@ module _ (comes : ℕ → Bool) where
 
   module _ (k : Circuit) (right : RightCircuit k) (o : Offer) (few : o .priority ≤ 3) (short : length (o .text) ≤ 4094)
       (ps : List Sent) (end : ℕ) (behind : end ≡ o .first + packets (length (o .text))) (out : List (List ℕ)) (later : Rest ps end out) where
-    sent : ℕ → Sent
-    sent j = record { original = copyOf k (o .priority) (o .text) (o .first + j) j; repetition = o .repetition }
+    -- number i of the circuit's packets, part j of the message; and the m from there on
+    sent : ℕ → ℕ → Sent
+    sent i j = record { original = copyOf k (o .priority) (o .text) i j; repetition = o .repetition }
 
-    packet : ℕ → List ℕ
-    packet j = sent j .original .packet
+    packet : ℕ → ℕ → List ℕ
+    packet i j = sent i j .original .packet
 
-    -- packet j has the index of its number, and carries part j
-    module _ (j : ℕ) where
-      l-lt : linkOf j (packets (length (o .text))) < 3
-      l-lt = linkOf-lt j (packets (length (o .text)))
+    abbrev left : ℕ → ℕ → ℕ → List Sent
+    left i j m = packetsFrom k (o .priority) (o .text) (o .repetition) i j m
 
-      index-packet : (i : ℕ) → i ≡ o .first + j → index (packet j) ≡ i % 8
-      unfolding packet sent copyOf
-      index-packet i e = rw e (index-made k right _ ((o .first + j) % 8) (o .priority) (segmentOf (o .text) j) l-lt (omega arith) (omega arith))
+    -- it has the index of its number, and carries its part
+    module _ (i j : ℕ) where
+      index-packet : index (packet i j) ≡ i % 8
+      unfolding packet sent
+      index-packet = index-in (packet i j) ∙ indexIn-copyOf k (o .priority) (o .text) i j few
 
-      carries : j < packets (length (o .text)) → Carries (o .text) j (packet j)
+      carries : j < packets (length (o .text)) → Carries (o .text) j (packet i j)
       unfolding packet sent copyOf
       carries h =
-          let i = (o .first + j) % 8 in
+          let l-lt = linkOf-lt j (packets (length (o .text))) in
           record {
             short = short;
             inside = h;
-            linked = link-made k right _ i (o .priority) (segmentOf (o .text) j) l-lt (omega arith) (omega arith);
-            segmented = segment-made k right _ i (o .priority) (segmentOf (o .text) j) l-lt (omega arith) (omega arith);
+            linked = link-made k right _ (i % 8) (o .priority) (segmentOf (o .text) j) l-lt (omega arith) (omega arith);
+            segmented = segment-made k right _ (i % 8) (o .priority) (segmentOf (o .text) j) l-lt (omega arith) (omega arith);
           }
 
     -- one is missing and there is no message to go on with: it is not handed over
     broken : (m j i : ℕ) → i ≡ o .first + suc j → suc j + m ≡ packets (length (o .text))
-        → (t : Slot) (area : List ℕ) (d : ℕ) (heard : List (List ℕ)) → Now (packetsFrom k o (suc j) m ++ ps) i t area d heard → stays t d ≡ false
+        → (t : Slot) (area : List ℕ) (d : ℕ) (heard : List (List ℕ)) → Now (left i (suc j) m ++ ps) i t area d heard → stays t d ≡ false
         → handedHeard t area heard ≡ out
     unfolding packetsFrom sent packet copyOf stays closedSlot open-message
     broken zero j i e all t area d heard now shut =
         let same : i ≡ end = omega arith in
         later t area d heard (rw same at now)
     broken (suc m) j i e all t area d heard now shut =
-        let p = packet (suc j) in
-        step (sent (suc j)) (packetsFrom k o (suc (suc j)) m ++ ps) i t area d heard (λ _ heard. handedHeard t area heard ≡ out)
-        (sym e) (index-packet (suc j) i e) now
+        let p = packet i (suc j) in
+        step (sent i (suc j)) (left (suc i) (suc (suc j)) m ++ ps) i t area d heard (λ _ heard. handedHeard t area heard ≡ out)
+        refl (index-packet i (suc j)) now
         (broken m (suc j) (suc i) (omega arith) (omega arith) t area (suc d) heard)
         (λ c rest h.
-        heard-orphan (o .text) j t area p c rest (carries (suc j) (omega arith)) (h .new) (next-shut t p d (h .loss) shut)
+        heard-orphan (o .text) j t area p c rest (carries i (suc j) (omega arith)) (h .new) (next-shut t p d (h .loss) shut)
         ∙ broken m (suc j) (suc i) (omega arith) (omega arith) (closedSlot p) area 0 rest (h .next (closedSlot p) area refl refl (now .room)) refl)
 
-    -- all packets before packet j came: it is due
-    ready-due : (j : ℕ) (t : Slot) (area : List ℕ) (d : ℕ) → Ready (o .text) j t area d → j < packets (length (o .text)) → isCopy t (packet j) ≡ false
-        → lossOf t (packet j) ≡ due t d → Due (o .text) j t (packet j)
-    ready-due j t area d r inside new loss =
+    -- all packets before part j came: it is due
+    ready-due : (i j : ℕ) (t : Slot) (area : List ℕ) (d : ℕ) → Ready (o .text) j t area d → j < packets (length (o .text))
+        → isCopy t (packet i j) ≡ false → lossOf t (packet i j) ≡ due t d → Due (o .text) j t (packet i j)
+    ready-due i j t area d r inside new loss =
         record {
-          carries = carries j inside;
+          carries = carries i j inside;
           new = new;
           held = λ behind. let (size, place, none) = r .held behind in (size, place, loss ∙ none);
         }
 
     -- then the message is handed over exactly if all from there on come
     ready : (m j i : ℕ) → i ≡ o .first + j → j + m ≡ packets (length (o .text)) → 0 < m
-        → (t : Slot) (area : List ℕ) (d : ℕ) (heard : List (List ℕ)) → Now (packetsFrom k o j m ++ ps) i t area d heard → Ready (o .text) j t area d
+        → (t : Slot) (area : List ℕ) (d : ℕ) (heard : List (List ℕ)) → Now (left i j m ++ ps) i t area d heard → Ready (o .text) j t area d
         → handedHeard t area heard ≡ cond (allFrom comes i m) (o .text ∷ []) [] ++ out
     unfolding packetsFrom sent packet copyOf due stays closedSlot heldSlot open-message allFrom region
     ready zero j i e all some t area d heard now r = absurd (omega arith)
     ready (suc zero) j i e all some t area d heard now r =
-        let p = packet j in
+        let p = packet i j in
         let after = withPart (o .text) j area in
-        step (sent j) ps i t area d heard (λ b heard. handedHeard t area heard ≡ cond (b && true) (o .text ∷ []) [] ++ out)
-        (sym e) (index-packet j i e) now
+        step (sent i j) ps i t area d heard (λ b heard. handedHeard t area heard ≡ cond (b && true) (o .text ∷ []) [] ++ out)
+        refl (index-packet i j) now
         (broken zero j (suc i) (omega arith) (omega arith) t area (suc d) heard)
         (λ c rest h.
-        heard-end (o .text) j t area p c rest (ready-due j t area d r (omega arith) (h .new) (h .loss)) (omega arith) (omega (arith, now .room)) (r .before)
+        heard-end (o .text) j t area p c rest (ready-due i j t area d r (omega arith) (h .new) (h .loss)) (omega arith) (omega (arith, now .room)) (r .before)
         ∙ ap (λ (l : List (List ℕ)). o .text ∷ l)
         (broken zero j (suc i) (omega arith) (omega arith) (closedSlot p) after 0 rest
         (h .next (closedSlot p) after refl refl (length-withPart (o .text) j area ∙ now .room)) refl))
     ready (suc (suc m)) j i e all some t area d heard now r =
-        let p = packet j in
+        let p = packet i j in
         let after = withPart (o .text) j area in
         let held = heldSlot (o .text) (suc j) p in
-        step (sent j) (packetsFrom k o (suc j) (suc m) ++ ps) i t area d heard
+        step (sent i j) (left (suc i) (suc j) (suc m) ++ ps) i t area d heard
         (λ b heard. handedHeard t area heard ≡ cond (b && allFrom comes (suc i) (suc m)) (o .text ∷ []) [] ++ out)
-        (sym e) (index-packet j i e) now
+        refl (index-packet i j) now
         (broken (suc m) j (suc i) (omega arith) (omega arith) t area (suc d) heard)
         (λ c rest h.
-        heard-more (o .text) j t area p c rest (ready-due j t area d r (omega arith) (h .new) (h .loss)) (omega arith)
+        heard-more (o .text) j t area p c rest (ready-due i j t area d r (omega arith) (h .new) (h .loss)) (omega arith)
         ∙ ready (suc m) (suc j) (suc i) (omega arith) (omega arith) (omega arith) held after 0 rest
         (h .next held after refl refl (length-withPart (o .text) j area ∙ now .room))
         (record { before = written-more (o .text) j area (omega arith) (omega (arith, now .room)) (r .before); held = λ _. (refl, refl, refl) }))
@@ -250,7 +252,7 @@ module _ (comes : ℕ → Bool) where
   -- however the circuit was left before these messages
   offers : (os : List Offer) (k : Circuit) (i : ℕ) → RightCircuit k → Offered i os
       → Rest (sentPackets k os) i (map (λ (o : Offer). o .text) (those complete os))
-  unfolding Offered sentPackets those handedHeard Thinned complete
+  unfolding Offered packetsOf sentPackets those handedHeard Thinned complete
   offers [] k i right h t area d heard now = rw (now .thinned)
   offers (o ∷ os) k i right h t area d heard now =
       let (first, few, short, bytes, more) = h in

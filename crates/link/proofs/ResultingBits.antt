@@ -9,7 +9,7 @@ use mathlib.Core.Option.{Option, none, some}
 use mathlib.Core.Path.{_≡_, refl, sym, ap, _∙_}
 use lib.ListN.{length, take, drop, getD}
 use lib.Seq.{drop-append-seam, drop-drop, getD-drop}
-use borrow.Author.Tests.{eqb-true}
+use borrow.Author.Tests.{eqb-true, eq-eqb}
 use Rattle.bits.proofs.Tests.{and-left, and-right}
 use Rattle.link.specs.Demand3.{Piece, kept, replaced, originals, Bit, keptBits, newBit, resulting, values, isNumber, beginWith, together}
 
@@ -90,6 +90,13 @@ row-values zero k a h e = begin-values k a h e
 row-values (suc i) k a {n} over e = begin-values k a {n = n} over e
 row-values (suc i) k a (foreign new later) e = row-values i k a later e
 row-values (suc i) k a (own m at is value later) e = row-values i k a later e
+
+-- bits that were kept begin with a row
+pub begins-kept : (k n : ℕ) (bs : List Bool) (bits : List Bit) → k ≤ length bs → beginWith n k (keptBits n bs ++ bits) ≡ true
+unfolding beginWith keptBits isNumber
+begins-kept zero n bs bits h = refl
+begins-kept (suc k) n [] bits h = absurd (omega arith)
+begins-kept (suc k) n (b ∷ bs) bits h = rw (eq-eqb n n refl) (begins-kept k (suc n) bs bits (omega arith))
 
 -- a row further on is a row somewhere, and the other way round
 pub row-together : (i : ℕ) (bits : List Bit) (n k : ℕ) → beginWith n k (drop i bits) ≡ true → together n k bits ≡ true

@@ -113,10 +113,10 @@ module _ (bits : List Bit) where
   EachGiven cs fs = (f : Frame) → List·Memᴰ f fs → cameWhole bits f ≡ true → (c : Closing) × List·Memᴰ c cs × Gives f c
 
   -- the bodies give the packets of the frames that came whole
-  abbrev pub Same : List Closing → List Frame → Type 0
+  abbrev Same : List Closing → List Frame → Type 0
   Same cs fs = given cs ≡ map (λ (f : Frame). f .packet) (those (cameWhole bits) fs)
 
-  abbrev pub SameIfEach : List Closing → Type 0
+  abbrev SameIfEach : List Closing → Type 0
   SameIfEach cs = (fs : List Frame) (n : ℕ) → Ascending n fs → EachFramed cs fs → EachGiven cs fs → Same cs fs
 
 -- ---- the same packets

@@ -2,35 +2,38 @@
 use Prim.Native.Nat.{ℕ, zero, suc, _+_, _-_, _≤_, _<_}
 use native.Mathlib.Omega.{arith}
 use mathlib.Core.Bool.{Bool, true, false, cond, _&&_}
-use mathlib.Core.List.{List, [], _∷_, _++_, map, append-assoc, nil≢cons}
+use mathlib.Core.List.{List, [], _∷_, _++_, map, append-assoc}
 use mathlib.Core.Option.{none, some}
 use mathlib.Core.Path.{_≡_, refl, sym, ap, _∙_}
-use lib.ListN.{length, getD, replicate, List·getD-eq-default}
+use lib.ListN.{length, getD, replicate}
 use lib.Dec.{ltb}
 use borrow.Author.Tests.{ltb-true, ltb-false, eq-eqb, ne-eqb}
+use Rattle.bits.proofs.Tests.{and-both}
 use Rattle.packet.specs.declared.Circuit.{Circuit}
 use Rattle.packet.specs.Circuits.{circuitsOf, circuitsRefusal, alike, listRefusal, noCircuit}
 use Rattle.packet.specs.Packets.{systemPacket}
 use Rattle.packet.proofs.CircuitLists.{alike-is, circuitsRefusal-zero, listed-listing, listing-refusal}
 use Rattle.sender.specs.Blocks.{System, opening, enableBits}
-use Rattle.sender.specs.Queues.{Copy, Queue, Queues, freshQueue, freshQueues, queueAt, behind, serveQueues, pickQueue, Placed, placedBits, takenNone, andTaken, takeUpTo, copiesInQueues, takeFrames}
+use Rattle.sender.specs.Queues.{Copy, Queue, Queues, freshQueues, queueAt, behind, serveQueues, pickQueue, Placed, placedBits, takenNone, andTaken, takeUpTo, copiesInQueues, takeFrames}
 use Rattle.sender.specs.Calls.{Call, offer, block, End, freshEnd, accepted, afterCall, queuesAfterCall, TakenBlock, bitsOfBlock, taken, blocksTaken}
 use Rattle.sender.specs.Sent.{copiesSent, placedAt, framesOf}
 use Rattle.sender.proofs.Queues.{serve-keeps, length-serve, taking-cases}
-use Rattle.sender.proofs.FirstInFirstOut.{first-in-first-out}
-use Rattle.link.specs.Demand3.{anyOf, those, Pass, messages, blocks, Frame, systemFrames, placedFrames, framesIn, framesInBlocks, frames, result, cameWhole, isCopyOf, comes, came, BytesIn}
+use Rattle.sender.proofs.FirstInFirstOut.{queueAt-there, first-in-first-out}
+use Rattle.link.specs.Demand3.{anyOf, allOf, those, Pass, messages, blocks, Frame, systemFrames, placedFrames, framesIn, framesInBlocks, frames, result, cameWhole, isCopyOf, comes, came, BytesIn}
 use Rattle.link.proofs.Steps.{isOf, packetsAt, Offer, messageOf, sentPackets, Offered, Thinned, cameOf}
+use Rattle.link.proofs.Numbering.{numbered-offers}
 use Rattle.link.proofs.CopiesThinned.{Arrival, copiesIn, comesIn, heardIn, arrived}
 use Rattle.link.proofs.OffersAt.{Number, number-of, Lists, lists-fresh, lists-call, offers-at}
 
 -- ---- the frames of a circuit
 
--- of frames, which have the copies placed in them: what comes of circuit k, and what is heard
-record Arrives (k : Circuit) (whole : Frame → Bool) (fs : List Frame) (ps : List Placed) : Type 0 where
-  arrivals : List Arrival
-  copies : copiesIn arrivals ≡ placedAt k ps
-  comes : (i : ℕ) → anyOf (λ f. isCopyOf k i (f .whose) && whole f) fs ≡ comesIn arrivals i
-  heard : packetsAt k (those whole fs) ≡ heardIn arrivals
+-- of frames, which have the copies placed in them: what comes of circuit k, what is heard, and that all came whole if all frames did
+pub record Arrives (k : Circuit) (whole : Frame → Bool) (fs : List Frame) (ps : List Placed) : Type 0 where
+  pub arrivals : List Arrival
+  pub copies : copiesIn arrivals ≡ placedAt k ps
+  pub comes : (i : ℕ) → anyOf (λ f. isCopyOf k i (f .whose) && whole f) fs ≡ comesIn arrivals i
+  pub heard : packetsAt k (those whole fs) ≡ heardIn arrivals
+  pub wholes : ((f : Frame) → whole f ≡ true) → allOf (λ (a : Arrival). a .whole) arrivals ≡ true
 
 -- a frame that came whole is heard if it is the circuit's
 module _ (k : Circuit) where
@@ -61,12 +64,13 @@ module _ (k : Circuit) (whole : Frame → Bool) where
             copies = later .copies;
             comes = later .comes;
             heard = heard-other k f (whole f) (those whole fs) refl ∙ later .heard;
+            wholes = later .wholes;
           }
       go false = later
 
   arrives-copy : (n : ℕ) (q : Placed) (fs : List Frame) (ps : List Placed) → Arrives k whole fs ps
       → Arrives k whole (record { from = n; packet = q .copy .packet; whose = some q } ∷ fs) (q ∷ ps)
-  unfolding anyOf those isCopyOf isOf placedAt comesIn heardIn
+  unfolding anyOf allOf those isCopyOf isOf placedAt comesIn heardIn
   arrives-copy n q fs ps later = go (alike k (q .circuit)) refl
     where
       f : Frame
@@ -79,6 +83,7 @@ module _ (k : Circuit) (whole : Frame → Bool) where
             copies = rw e (ap (λ l. q .copy ∷ l) (later .copies));
             comes = λ i. rw (e, later .comes i);
             heard = heard-own k f (whole f) (those whole fs) e ∙ ap (_++_ (cond (whole f) (q .copy .packet ∷ []) [])) (later .heard);
+            wholes = λ all. and-both (whole f) _ (all f) (later .wholes all);
           }
       go false e =
           record {
@@ -86,6 +91,7 @@ module _ (k : Circuit) (whole : Frame → Bool) where
             copies = rw e (later .copies);
             comes = λ i. rw e (later .comes i);
             heard = heard-other k f (whole f) (those whole fs) e ∙ later .heard;
+            wholes = later .wholes;
           }
 
   arrives-placed : (qs : List Placed) (n : ℕ) (fs : List Frame) (ps : List Placed) → Arrives k whole fs ps
@@ -96,9 +102,9 @@ module _ (k : Circuit) (whole : Frame → Bool) where
       let next : ℕ = n + length (placedBits q) in
       arrives-copy n q (placedFrames next qs ++ fs) (qs ++ ps) (arrives-placed qs next fs ps later)
 
-  arrives-blocks : (bs : List TakenBlock) (n : ℕ) → Arrives k whole (framesInBlocks n bs) (framesOf bs)
-  unfolding framesInBlocks framesIn framesOf anyOf those placedAt comesIn heardIn packetsAt
-  arrives-blocks [] n = record { arrivals = []; copies = refl; comes = λ i. refl; heard = refl }
+  pub arrives-blocks : (bs : List TakenBlock) (n : ℕ) → Arrives k whole (framesInBlocks n bs) (framesOf bs)
+  unfolding framesInBlocks framesIn framesOf anyOf allOf those placedAt comesIn heardIn packetsAt
+  arrives-blocks [] n = record { arrivals = []; copies = refl; comes = λ i. refl; heard = refl; wholes = λ all. refl }
   arrives-blocks (b ∷ bs) n =
       let later = arrives-blocks bs (n + length (bitsOfBlock b)) in
       rw append-assoc
@@ -110,14 +116,7 @@ module _ (cs : List Circuit) (k : Circuit) (strange : (d : ℕ) → d < length c
   -- a queue that has copies is of a listed circuit
   strange-queue : (q : Queues) → Lists cs q → (d : ℕ) (x : Copy) (xs : List Copy) → queueAt q d .copies ≡ x ∷ xs
       → alike k (queueAt q d .circuit) ≡ false
-  unfolding queueAt freshQueue
-  strange-queue q l d x xs e = go (ltb d (length cs)) refl
-    where
-      go : (b : Bool) → ltb d (length cs) ≡ b → alike k (queueAt q d .circuit) ≡ false
-      go true h = rw (l .circuit d) (strange d (ltb-true d (length cs) h))
-      go false h =
-          let behind : length (q .queues) ≤ d = omega (arith, l .count, ltb-false d (length cs) h) in
-          absurd (nil≢cons (sym (ap (λ (p : Queue). p .copies) (List·getD-eq-default (q .queues) (freshQueue noCircuit) behind)) ∙ e))
+  strange-queue q l d x xs e = rw (l .circuit d) (strange d (omega (arith, l .count, queueAt-there q d x xs e)))
 
   -- nothing of it is placed
   strange-taken : (n : ℕ) (q : Queues) (at enable u : ℕ) (rest : List Placed) → Lists cs q
@@ -192,8 +191,8 @@ sent-at p accepts lent k =
     let o = offers-at (p .senderList) (p .senderStore) (p .calls) k c accepts lent number in
     let (waiting, first) = placed-first (p .senderList) (p .senderStore) (p .calls) k c accepts number in
     let a = arrives-blocks k (cameWhole (result p)) (blocks p) 0 in
-    let r = arrived (sentPackets k (o .offers)) 0 (a .arrivals) waiting (comes p k) (o .counted) (rw (a .copies) (sym first ∙ o .copied))
-    (λ i h. a .comes i) in
+    let r = arrived (sentPackets k (o .offers)) 0 (a .arrivals) waiting (comes p k) (numbered-offers k (o .offers) 0 (o .right))
+    (rw (a .copies) (sym first ∙ o .copied)) (λ i h. a .comes i) in
     record {
       offers = o .offers;
       right = o .right;

@@ -1,5 +1,5 @@
 -- What the steps of the proof hand to each other.
-use Prim.Native.Nat.{ℕ, zero, suc, _+_, _≤_, _<_}
+use Prim.Native.Nat.{ℕ, suc, _+_, _≤_, _<_}
 use mathlib.Core.Bool.{Bool, true, false, cond}
 use mathlib.Core.List.{List, [], _∷_, _++_, map}
 use mathlib.Core.Option.{Option, none, some}
@@ -15,11 +15,24 @@ use Rattle.packet.specs.Packets.{systemPacket}
 use Rattle.framing.specs.Closings.{Closing}
 use Rattle.sender.specs.Queues.{Copy, copyOf, Placed}
 use Rattle.sender.specs.Sent.{Sent}
+use Rattle.sender.proofs.IndexCounts.{packetsFrom}
 use Rattle.receiver.specs.declared.Slot.{Slot}
 use Rattle.receiver.specs.declared.Receiver.{Receiver}
 use Rattle.receiver.specs.Notices.{Heard, heard, isCopy, lossOf, fateOf, slotAfter, storeAfter}
 use Rattle.receiver.specs.Reads.{Told}
 use Rattle.link.specs.Demand3.{Frame, frameLength, Message, handedFrom}
+
+-- ---- lists
+
+-- each of a list is so
+unfoldable pub EachIs : {A : Type 0} → (A → Type 0) → List A → Type 0
+EachIs P [] = Unit {0}
+EachIs P (x ∷ xs) = P x × EachIs P xs
+
+pub EachIs-append : {A : Type 0} (P : A → Type 0) (a b : List A) → EachIs P a → EachIs P b → EachIs P (a ++ b)
+unfolding EachIs
+EachIs-append P [] b h g = g
+EachIs-append P (x ∷ a) b h g = (h .0, EachIs-append P a b (h .1) g)
 
 -- ---- packets that pass
 
@@ -49,9 +62,8 @@ pub record LaidAt (bits : List Bool) (f : Frame) : Type 0 where
   pub most : length (f .packet) ≤ 19
   pub there : take (frameLength f) (drop (f .from) bits) ≡ flag ++ frame (f .packet) ++ flag
 
-unfoldable pub Laid : List Bool → List Frame → Type 0
-Laid bits [] = Unit {0}
-Laid bits (f ∷ fs) = LaidAt bits f × Laid bits fs
+abbrev pub Laid : List Bool → List Frame → Type 0
+Laid bits fs = EachIs (LaidAt bits) fs
 
 -- each ends behind number n and behind the one before it
 unfoldable pub Ascending : ℕ → List Frame → Type 0
@@ -92,9 +104,11 @@ unfoldable pub MadeBy : Option Placed → List ℕ → Type 0
 MadeBy none packet = MadeSystem packet
 MadeBy (some q) packet = (packet ≡ q .copy .packet) × RightCircuit (q .circuit) × Made (q .circuit) (q .copy)
 
-unfoldable pub AllMade : List Frame → Type 0
-AllMade [] = Unit {0}
-AllMade (f ∷ fs) = MadeBy (f .whose) (f .packet) × AllMade fs
+abbrev pub MadeIn : Frame → Type 0
+MadeIn f = MadeBy (f .whose) (f .packet)
+
+abbrev pub AllMade : List Frame → Type 0
+AllMade fs = EachIs MadeIn fs
 
 -- ---- one circuit
 
@@ -130,15 +144,13 @@ pub record Offer : Type 0 where
 unfoldable pub messageOf : Offer → Message
 messageOf o = record { text = o .text; first = o .first }
 
--- its packets from part i on, n of them
-unfoldable pub packetsFrom : Circuit → Offer → ℕ → ℕ → List Sent
-packetsFrom k o i zero = []
-packetsFrom k o i (suc n) =
-    record { original = copyOf k (o .priority) (o .text) (o .first + i) i; repetition = o .repetition } ∷ packetsFrom k o (suc i) n
+-- the packets of offers
+unfoldable pub packetsOf : Circuit → Offer → List Sent
+packetsOf k o = packetsFrom k (o .priority) (o .text) (o .repetition) (o .first) 0 (packets (length (o .text)))
 
 unfoldable pub sentPackets : Circuit → List Offer → List Sent
 sentPackets k [] = []
-sentPackets k (o ∷ os) = packetsFrom k o 0 (packets (length (o .text))) ++ sentPackets k os
+sentPackets k (o ∷ os) = packetsOf k o ++ sentPackets k os
 
 -- the offers are right, and their packets are counted from n on
 unfoldable pub Offered : ℕ → List Offer → Type 0

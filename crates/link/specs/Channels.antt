@@ -1,4 +1,5 @@
--- Channels on which no frame passes but those that came whole, with nothing assumed of the bits (`claim-clean`, `claim-dropped`, `claim-ones`).
+-- Channels on which no frame passes but those that came whole, with nothing assumed of the bits (`clean-losses`, `clean-handed`, `claim-dropped`,
+-- `claim-ones` of proofs/OnChannels).
 use Prim.Native.Nat.{ℕ, _≤_}
 use mathlib.Core.Bool.{Bool, true, false}
 use mathlib.Core.List.{List, [], _∷_}

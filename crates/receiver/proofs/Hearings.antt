@@ -1,18 +1,16 @@
 -- Hearings: what a packet leaves and tells, from what the code's parts answer, and what is known of a listed circuit's number.
 use mathlib.Core.Path.{_≡_, refl, sym, ap, _∙_}
-use Prim.Native.Nat.{ℕ, zero, suc, _+_, _-_, _≤_, _<_}
+use Prim.Native.Nat.{ℕ, _-_, _≤_, _<_}
 use native.Mathlib.Omega.{arith}
-use mathlib.Core.Bool.{Bool, true, false, cond, _&&_}
-use mathlib.Core.List.{List, [], _∷_}
-use mathlib.Core.Option.{Option, none, some}
-use lib.Dec.{leb, eqb}
-use lib.ListN.{length, take, getD, length-take}
-use lib.Seq.{sets, getD-take}
+use mathlib.Core.Bool.{Bool, true, false, cond}
+use mathlib.Core.List.{List}
+use lib.Dec.{eqb}
+use lib.ListN.{length}
+use lib.Seq.{sets}
 use borrow.Author.Tests.{eq-eqb, ne-eqb, leb-true, leb-false}
-use Rattle.bits.proofs.Tests.{and-left, and-right, or-left}
+use Rattle.bits.proofs.Tests.{or-left}
 use Rattle.packet.specs.declared.Circuit.{Circuit}
-use Rattle.packet.specs.Circuits.{alike, circuitsRefusal, listed}
-use Rattle.framing.specs.Range.{inRange as framingInRange}
+use Rattle.packet.specs.Circuits.{listed}
 use Rattle.receiver.specs.declared.Slot.{Slot}
 use Rattle.receiver.specs.declared.Receiver.{Receiver}
 use Rattle.receiver.specs.declared.Found.{Found}
@@ -20,60 +18,24 @@ use Rattle.receiver.specs.declared.Found.the-variants.{At, Nowhere}
 use Rattle.receiver.specs.declared.Fate.{Fate}
 use Rattle.receiver.specs.declared.Notice.the-variants.{Malformed, System, Elsewhere}
 use Rattle.receiver.specs.declared.Notice.the-variants.{Circuit as CircuitNotice}
-use Rattle.receiver.specs.Record.{region, systemPlace, freshSlot, slotAt, slotInRange, slotsInRange, inRange}
+use Rattle.receiver.specs.Record.{region, systemPlace, slotAt, slotInRange, inRange}
 use Rattle.receiver.specs.Packets.{address, link, lead, circuitIn, numberFrom, code, information, enable, malformed}
 use Rattle.receiver.specs.Found.{foundOption}
 use Rattle.receiver.specs.Notices.{isCopy, lossOf, fateOf, slotAfter, storeAfter, withSlot, heardAt, heardBy, systemHeard, heard}
-use Rattle.receiver.proofs.PacketParts.{length-information}
+use Rattle.receiver.proofs.PacketParts.{length-information, number-lt}
+use Rattle.receiver.proofs.SlotsInRange.{getD-slotsInRange}
+use Rattle.receiver.proofs.InRange.{Parts, inRange-parts}
 
 -- ---- a number that was found is a listed circuit's, and its slot is in range
 
--- the number that is in an option
-number : Option ℕ → ℕ
-number (some n) = n
-number none = 0
-
-none-some : (n : ℕ) → none ≡ some n → ⊥
-none-some n e = absurd (let z : _≡_ {A = ℕ} 0 1 = cc in omega arith)
-
-numberFrom-lt : (cs : List Circuit) (d : Circuit) (n k : ℕ) → numberFrom cs d n ≡ some k → k < n + length cs
-unfolding numberFrom number
-numberFrom-lt [] d n k e = absurd (none-some k e)
-numberFrom-lt (c ∷ cs) d n k e = go (alike c d) e (numberFrom-lt cs d (n + 1) k)
-  where
-    go : (b : Bool) → cond b (some n) (numberFrom cs d (n + 1)) ≡ some k → (numberFrom cs d (n + 1) ≡ some k → k < n + 1 + length cs) → k < n + suc (length cs)
-    go true e later = let same : n ≡ k = ap number e in omega arith
-    go false e later = let h = later e in omega arith
-
-slotsInRange-getD : (ts : List Slot) (i : ℕ) → slotsInRange ts ≡ true → slotInRange (getD ts i freshSlot) ≡ true
-unfolding slotsInRange slotInRange freshSlot
-slotsInRange-getD [] i e = refl
-slotsInRange-getD (x ∷ ts) zero e = and-left (slotInRange x) (slotsInRange ts) e
-slotsInRange-getD (x ∷ ts) (suc i) e = slotsInRange-getD ts i (and-right (slotInRange x) (slotsInRange ts) e)
-
 module _ (r : Receiver) (range : inRange r ≡ true) where
-  inRange-count : r .circuits .count ≤ 4
-  unfolding inRange
-  inRange-count = leb-true _ _ (and-left _ _ (and-left _ _ (and-left _ _ range)))
-
-  inRange-slots : slotsInRange (take (r .circuits .count) (r .slots)) ≡ true
-  unfolding inRange
-  inRange-slots =
-      and-right (leb (r .circuits .count) 4 && eqb (circuitsRefusal (listed (r .circuits))) 0) _ (and-left _ (framingInRange (r .framing)) range)
-
-  slotAt-inRange : (n : ℕ) → n < r .circuits .count → slotInRange (slotAt r n) ≡ true
-  unfolding slotAt
-  slotAt-inRange n h =
-      rw (getD-take (r .circuits .count) (r .slots) n freshSlot h) at (slotsInRange-getD (take (r .circuits .count) (r .slots)) n inRange-slots)
-
   pub found-slot : (f : Found) (d : Circuit) (n : ℕ) → foundOption f ≡ numberFrom (listed (r .circuits)) d 0 → f ≡ At n
       → (n < 4) × (slotInRange (slotAt r n) ≡ true)
-  unfolding listed foundOption
+  unfolding foundOption slotAt
   found-slot f d n e g =
-      let most = length-take (r .circuits .count) (r .circuits .list) in
-      let below = numberFrom-lt (listed (r .circuits)) d 0 n (sym e ∙ ap foundOption g) in
-      let inside : n < r .circuits .count = omega arith in
-      (omega (arith, inRange-count), slotAt-inRange n inside)
+      let parts : Parts r = inRange-parts r range in
+      let inside : n < r .circuits .count = number-lt (r .circuits) d n (sym e ∙ ap foundOption g) in
+      (omega (arith, leb-true (r .circuits .count) 4 (parts .count)), getD-slotsInRange (r .circuits .count) (r .slots) n inside (parts .slots))
 
 -- ---- what a packet leaves and tells
 

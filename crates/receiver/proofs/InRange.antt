@@ -32,13 +32,13 @@ use Rattle.receiver.specs.Reads.{ReadCall, ReceiverEnd, freshReceiverEnd
 use Rattle.receiver.proofs.SlotsInRange.{cond-either, replicate-slotsInRange, getD-slotsInRange, set-slotsInRange, slotAfter-in-range}
 
 -- a record in range, by its parts
-record Parts (r : Receiver) : Type 0 where
-  count : leb (r .circuits .count) 4 ≡ true
-  circuits : eqb (circuitsRefusal (listed (r .circuits))) 0 ≡ true
-  slots : slotsInRange (take (r .circuits .count) (r .slots)) ≡ true
-  framing : framingInRange (r .framing) ≡ true
+pub record Parts (r : Receiver) : Type 0 where
+  pub count : leb (r .circuits .count) 4 ≡ true
+  pub circuits : eqb (circuitsRefusal (listed (r .circuits))) 0 ≡ true
+  pub slots : slotsInRange (take (r .circuits .count) (r .slots)) ≡ true
+  pub framing : framingInRange (r .framing) ≡ true
 
-inRange-parts : (r : Receiver) → inRange r ≡ true → Parts r
+pub inRange-parts : (r : Receiver) → inRange r ≡ true → Parts r
 unfolding inRange
 inRange-parts r e =
     let a : Bool = leb (r .circuits .count) 4 in
@@ -171,7 +171,7 @@ module _ (r : Receiver) (store bytes : List ℕ) (from to : ℕ) (h : Array21 (r
 
 -- ---- reading calls from a listing on
 
-pub reads-in-range : (cs : List ReadCall) (e : ReceiverEnd) → Array21 (e .receiver .framing .bits) → inRange (e .receiver) ≡ true
+reads-in-range : (cs : List ReadCall) (e : ReceiverEnd) → Array21 (e .receiver .framing .bits) → inRange (e .receiver) ≡ true
     → inRange (afterReads e cs .receiver) ≡ true
 unfolding afterReads afterRead
 reads-in-range [] e h k = k

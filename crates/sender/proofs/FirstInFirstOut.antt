@@ -92,7 +92,7 @@ Apart-serve q d apart i j li lj =
     (apart i j (rw (length-serve q d) at li) (rw (length-serve q d) at lj))
 
 -- a queue that has copies is there
-queueAt-there : (q : Queues) (d : ℕ) (x : Copy) (xs : List Copy) → queueAt q d .copies ≡ x ∷ xs → d < length (q .queues)
+pub queueAt-there : (q : Queues) (d : ℕ) (x : Copy) (xs : List Copy) → queueAt q d .copies ≡ x ∷ xs → d < length (q .queues)
 unfolding queueAt freshQueue
 queueAt-there q d x xs e = go (ltb d (length (q .queues))) refl
   where

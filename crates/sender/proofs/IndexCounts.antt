@@ -26,7 +26,7 @@ use Rattle.sender.proofs.StandsCalls.{stands-fresh, stands-call}
 
 -- ---- packets joined
 
-copiesOf-append : (a b : List Sent) → copiesOf (a ++ b) ≡ copiesOf a ++ copiesOf b
+pub copiesOf-append : (a b : List Sent) → copiesOf (a ++ b) ≡ copiesOf a ++ copiesOf b
 unfolding copiesOf
 copiesOf-append [] b = refl
 copiesOf-append (p ∷ a) b = rw (copiesOf-append a b) (sym (append-assoc (replicate (suc (p .repetition)) (p .original)) (copiesOf a) (copiesOf b)))
@@ -48,23 +48,23 @@ indexIn-copyOf k priority message number i h = omega arith
 
 -- its packets, and their copies
 module _ (k : Circuit) (priority : ℕ) (message : List ℕ) (repetition : ℕ) where
-  packetsFrom : ℕ → ℕ → ℕ → List Sent
+  unfoldable pub packetsFrom : ℕ → ℕ → ℕ → List Sent
   packetsFrom number i zero = []
   packetsFrom number i (suc n) =
       record { original = copyOf k priority message number i; repetition = repetition } ∷ packetsFrom (suc number) (suc i) n
 
-  length-packetsFrom : (n number i : ℕ) → length (packetsFrom number i n) ≡ n
+  pub length-packetsFrom : (n number i : ℕ) → length (packetsFrom number i n) ≡ n
   unfolding packetsFrom
   length-packetsFrom zero number i = refl
   length-packetsFrom (suc n) number i = ap suc (length-packetsFrom n (suc number) (suc i))
 
-  Numbered-packetsFrom : (n number i : ℕ) → priority ≤ 3 → Numbered number (packetsFrom number i n)
+  pub Numbered-packetsFrom : (n number i : ℕ) → priority ≤ 3 → Numbered number (packetsFrom number i n)
   unfolding packetsFrom Numbered copyOf
   Numbered-packetsFrom zero number i h = tt
   Numbered-packetsFrom (suc n) number i h =
       (refl, indexIn-copyOf k priority message number i h, Numbered-packetsFrom n (suc number) (suc i) h)
 
-  copiesFrom-packetsFrom : (n number i : ℕ) → copiesFrom k priority message (suc repetition) number i n ≡ copiesOf (packetsFrom number i n)
+  pub copiesFrom-packetsFrom : (n number i : ℕ) → copiesFrom k priority message (suc repetition) number i n ≡ copiesOf (packetsFrom number i n)
   unfolding packetsFrom copiesFrom copiesOf
   copiesFrom-packetsFrom zero number i = refl
   copiesFrom-packetsFrom (suc n) number i =

@@ -7,28 +7,16 @@
 use framing::Check;
 use framing::Framing;
 use packet::Answer;
+use printing::print;
+use printing::print_bytes;
+use printing::print_hex;
+use printing::print_number;
 use sender::Made;
 use sender::Sender;
 use sender::blocks::make_block;
 ghost use mathlib.Core.Path.{_≡_};
 ghost use Prim.Native.Nat.{_*_, _≤_};
 ghost use lib.ListN.{length};
-
-fn wide(b: u8) -> u64 {
-    b as u64
-}
-
-fn print(text: &[u8]) {
-    io::write_all(libc::STDOUT_FILENO, text);
-}
-
-fn print_bytes(bytes: &[u8]) {
-    let mut i = 0;
-    while i < bytes.len() {
-        io::print_hex(libc::STDOUT_FILENO, wide(bytes[i]), 2);
-        i += 1;
-    }
-}
 
 fn print_bit(bit: bool) {
     if bit {
@@ -53,10 +41,10 @@ fn fcs_of(bytes: &[u8]) {
     let value = fcs::fcs(bytes);
     print_bytes(bytes);
     print(b" fcs ");
-    io::print_hex(libc::STDOUT_FILENO, value as u64, 4);
+    print_hex(value as usize, 4);
     print(b" sent ");
-    io::print_hex(libc::STDOUT_FILENO, (value % 256) as u64, 2);
-    io::print_hex(libc::STDOUT_FILENO, (value / 256) as u64, 2);
+    print_hex((value % 256) as usize, 2);
+    print_hex((value / 256) as usize, 2);
     print(b"\n");
 }
 
@@ -66,7 +54,7 @@ fn print_packet(bytes: [u8; 21], n: usize) {
         return;
     }
     print(b"packet ");
-    print_bytes(&bytes[..n]);
+    print_bytes(&bytes[0..n]);
 }
 
 // What a fresh receiver finds in the first `to` bits.
@@ -80,11 +68,15 @@ fn read_back(bytes: &[u8], to: usize)
             let packet = found.bytes;
             print_packet(packet, n);
         }
-        Check::Spoilt => print(b"spoilt"),
-        Check::Nothing => print(b"nothing"),
+        Check::Spoilt => {
+            print(b"spoilt");
+        }
+        Check::Nothing => {
+            print(b"nothing");
+        }
     }
     print(b" after ");
-    io::print_decimal(libc::STDOUT_FILENO, found.at as u64);
+    print_number(found.at);
     print(b" bits\n");
 }
 
@@ -124,18 +116,14 @@ fn torn_frame_of(packet: &[u8], bit: usize) {
     let old = bits::get_bit(&buffer, bit);
     bits::put_bit(&mut buffer, bit, !old);
     print(b"bit ");
-    io::print_decimal(libc::STDOUT_FILENO, bit as u64);
+    print_number(bit);
     print(b" torn: ");
     read_back(&buffer, end);
 }
 
-fn print_number(n: usize) {
-    io::print_decimal(libc::STDOUT_FILENO, n as u64);
-}
-
 fn print_refusal(number: u8) {
     print(b"refused ");
-    io::print_decimal(libc::STDOUT_FILENO, number as u64);
+    print_number(number as usize);
     print(b"\n");
 }
 
@@ -151,7 +139,9 @@ fn offer(
     let offered = sender.offer(store, circuit, priority, repetition, message);
     let answer = offered.answer;
     match answer {
-        Answer::Accepted => print(b"accepted\n"),
+        Answer::Accepted => {
+            print(b"accepted\n");
+        }
         Answer::Refused(number) => print_refusal(number),
     }
     offered.sender
