@@ -338,18 +338,32 @@ fn phase_after(ones: u8) -> u8
     if ones == 5 { 4 } else { 3 }
 }
 
-// Whether every bit from number `from` on is 0.
+// Whether every byte from number `from` on is 0.
+fn zero_bytes_from(bytes: [u8; 21], from: usize) -> bool
+    ensures { λ r. ⌜ r ≡ range.allZero (bitsOf (drop from bytes)) ⌝ }
+{
+    let mut i = from;
+    while i < 21 {
+        if bytes[i] != 0 {
+            return false;
+        }
+        i += 1;
+    }
+    true
+}
+
+// Whether every bit from number `from` on is 0: those of its own byte, and the bytes behind that.
 fn zero_from(bytes: [u8; 21], from: usize) -> bool
     ensures { λ r. ⌜ r ≡ range.allZero (drop from (bitsOf bytes)) ⌝ }
 {
-    let mut at = from;
-    while at < 168 {
-        if bits::get_bit(&bytes, at) {
-            return false;
-        }
-        at += 1;
+    if 168 <= from {
+        return true;
     }
-    true
+    let i = from / 8;
+    if bytes[i] >> (from % 8) != 0 {
+        return false;
+    }
+    zero_bytes_from(bytes, i + 1)
 }
 
 // How many ones end the first n bits.

@@ -1,74 +1,70 @@
--- `zero_from` meets its contract. The loop's invariant: the bits from here on are all 0 exactly if those from the start are.
-use Prim.Native.Nat.{_-_}
-use mathlib.Core.Path.{_≡_, refl, _∙_}
+-- `zero_from` meets its contract: a shift tells of the bits of the first byte, and the bytes behind it are looked at whole.
+use Prim.Native.Nat.{ℕ, _/_, _%_, _<_}
+use mathlib.Core.Path.{_≡_, ap, _∙_}
 use native.Mathlib.Omega.{arith}
 use borrow.Author.Needs.{needs}
-use lib.ListN.{length, drop}
+use mir.Syntax.{w8}
+use mir.Val.{Fits}
+use lib.ListN.{length, getD}
 use Rattle.bits.specs.Bits.{bitsOf}
 use Rattle.framing.specs.Range.{allZero}
-use Rattle.framing.proofs.Turns.{length-bits-21, allZero-one, allZero-zero, allZero-end}
+use Rattle.framing.proofs.Turns.{length-bits-21, allZero-some, allZero-none, allZero-end, drop-in-byte}
 use Rattle.framing.proofs.zero_from.Statement.{statement}
 use Rattle.framing.proofs.zero_from.Tie as tie
 
-abbrev Inv-loop : tie.InvT-loop
-Inv-loop from bytes at₀ at = allZero (drop at (bitsOf bytes)) ≡ allZero (drop from (bitsOf bytes))
+-- there are 21 bytes, each below 256
+long : (c : tie.Start) → length (c .args .t1) ≡ 21
+long c = search needs
 
-abbrev μ-loop : tie.MeasureT-loop
-μ-loop from bytes at₀ at = 168 - at
+small : (c : tie.Start) (i : ℕ) → getD (c .args .t1) i 0 < 256
+small c i = let byte : Fits w8 (getD (c .args .t1) i 0) = search needs in byte .fits
 
--- 21 bytes are 168 bits
-long : (c : tie.Start Inv-loop μ-loop) → length (bitsOf (c .args .t1)) ≡ 168
-long c = length-bits-21 (c .args .t1) (search needs)
-
-loop-holds : tie.Need-loop-holds Inv-loop μ-loop
-loop-holds c = refl
-
-slice-aggregate-get-bit : tie.Need-slice-aggregate-get-bit Inv-loop μ-loop
-slice-aggregate-get-bit c = search needs
-
-get-bit-requires : tie.Need-get-bit-requires Inv-loop μ-loop
-get-bit-requires c κs =
-    let l : length (c .before .before .before .args .t1) ≡ 21 = search needs in
-    omega arith
-
-returns : tie.Need-returns Inv-loop μ-loop
+returns : tie.Need-returns
 returns c =
-    allZero-one (bitsOf (c .before .before .before .before .before .args .t1)) (c .before .before .before .before .loop .at) _
-    (omega (arith, long (c .before .before .before .before .before)))
-    (c .before .get-bit .ensures)
-    (c .if1 .taken)
-    ∙ c .before .before .before .before .loop .inv
+    let start = c .before in
+    allZero-end (bitsOf (start .args .t1)) (start .args .from) (omega (arith, length-bits-21 (start .args .t1) (long start)))
 
-add-at : tie.Need-add-at Inv-loop μ-loop
-add-at c = omega arith
+array-read-if2 : tie.Need-array-read-if2
+array-read-if2 c = search needs
 
-loop-less : tie.Need-loop-less Inv-loop μ-loop
-loop-less c = omega arith
+cast-if2 : tie.Need-cast-if2
+cast-if2 c = search needs
 
-loop-again : tie.Need-loop-again Inv-loop μ-loop
-loop-again c =
-    allZero-zero (bitsOf (c .before .before .before .before .before .args .t1)) (c .before .before .before .before .loop .at) _
-    (omega (arith, long (c .before .before .before .before .before)))
-    (c .before .get-bit .ensures)
-    (c .if1 .left)
-    ∙ c .before .before .before .before .loop .inv
+shr-if2 : tie.Need-shr-if2
+shr-if2 c = search needs
 
-returns-2 : tie.Need-returns-2 Inv-loop μ-loop
+returns-2 : tie.Need-returns-2
 returns-2 c =
-    allZero-end (bitsOf (c .before .before .args .t1)) (c .before .loop .at) (omega (arith, long (c .before .before)))
-    ∙ c .before .loop .inv
+    let start = c .before .before in
+    let bytes = start .args .t1 in
+    let from = start .args .from in
+    allZero-some bytes (from / 8) (from % 8) (omega (arith, long start)) (small start (from / 8)) (omega arith) (c .if2 .taken)
+    ∙ ap allZero (drop-in-byte bytes from)
+
+add-zero-bytes-from : tie.Need-add-zero-bytes-from
+add-zero-bytes-from c = search needs
+
+zero-bytes-from-requires : tie.Need-zero-bytes-from-requires
+zero-bytes-from-requires c κs = search needs
+
+returns-3 : tie.Need-returns-3
+returns-3 c =
+    let start = c .before .before .before in
+    let bytes = start .args .t1 in
+    let from = start .args .from in
+    c .zero-bytes-from .ensures
+    ∙ allZero-none bytes (from / 8) (from % 8) (omega (arith, long start)) (small start (from / 8)) (omega arith) (c .before .if2 .left)
+    ∙ ap allZero (drop-in-byte bytes from)
 
 pub zero-from-spec : {M : Type 1} → statement M
 zero-from-spec =
     tie.close
     (tie.spec
-    Inv-loop
-    μ-loop
-    loop-holds
-    slice-aggregate-get-bit
-    get-bit-requires
     returns
-    add-at
-    loop-less
-    loop-again
-    returns-2)
+    array-read-if2
+    cast-if2
+    shr-if2
+    returns-2
+    add-zero-bytes-from
+    zero-bytes-from-requires
+    returns-3)
