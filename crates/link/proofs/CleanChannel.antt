@@ -10,8 +10,8 @@ use lib.Dec.{eqb}
 use borrow.Author.Tests.{eq-eqb}
 use Rattle.bits.proofs.Tests.{and-left, and-right, and-both}
 use Rattle.packet.specs.declared.Circuit.{Circuit}
-use Rattle.sender.specs.Queues.{Copy}
-use Rattle.sender.specs.Sent.{placedAt, framesOf}
+use Rattle.queues.specs.Queues.{Copy}
+use Rattle.queues.specs.Sent.{placedAt, framesOf}
 use Rattle.receiver.proofs.SlotsInRange.{cond-either}
 use Rattle.link.specs.Demand3.{anyOf, allOf, those, kept, Pass, joinedBits, blocks, Frame, frameLength, frames, keptBits, resulting, result, together, cameWhole, isCopyOf, comes, eachOnce, came, fromFirst, upToLast, fromFirstToLast, lost, atMostSixLost}
 use Rattle.link.proofs.ResultingBits.{begins-kept, row-together}

@@ -18,8 +18,8 @@ use Rattle.hdlc.proofs.NoSix.{NoSix, NoSix-tail}
 use Rattle.hdlc.proofs.Stuffing.{NoSix-stuff}
 use Rattle.hdlc.proofs.Ending.{length-flag}
 use Rattle.sender.specs.Blocks.{opening}
-use Rattle.sender.specs.Queues.{Placed, placedBits, framesBits}
-use Rattle.sender.specs.Calls.{TakenBlock, usedIn, bitsOfBlock}
+use Rattle.queues.specs.Queues.{Placed, placedBits, framesBits}
+use Rattle.queues.specs.Calls.{TakenBlock, usedIn, bitsOfBlock}
 use Rattle.link.specs.Demand3.{anyOf, Frame, frameLength, systemFrames, placedFrames, framesIn, framesInBlocks}
 use Rattle.link.specs.Demand3.{Bit, keptBits, resulting, values, isPassed, noOtherPasses}
 use Rattle.link.specs.Channels.{droppedPieces}

@@ -24,12 +24,13 @@ use Rattle.framing.specs.Range.{inRange as framingInRange, kept as framingKept,
 use Rattle.framing.specs.Scanning.{ended, stopped, scan}
 use Rattle.sender.specs.Record.{messageAt, pending, freshSlot as freshSendSlot, slotAt as sendSlotAt, slotInRange as sendSlotInRange, slotsInRange as sendSlotsInRange, inRange as sendInRange, region as sendRegion, storeLength as sendStoreLength, fresh as freshSender}
 use Rattle.sender.specs.Offering.{offerRefusal, offeredSender, offeredStore, senderAfterOffer, storeAfterOffer}
-use Rattle.sender.specs.Picking.{enabled, goingRound, orElse, firstWaiting, waitsAt, pickFrom, pick, nextPacket, advanced, served, copiesWaiting}
-use Rattle.sender.specs.Blocks.{System, full, andThen, nextFrame, placing, fill, copiesIn, waiting, filled, enableBits, opening, blockFilled, blockRefusal, senderAfterBlock}
-use Rattle.sender.specs.Queues.{freshQueue, freshQueues, queueAt, copyOf, copiesFrom, messageCopies, offered, offerQueues, frontHas, firstQueue, pickQueueFrom, pickQueue, behindFirst, behind, serveQueues, placedBits, framesBits, takenNone, andTaken, takingFirst, taking, takeUpTo, copiesInQueues, takeFrames}
-use Rattle.sender.specs.Calls.{Call, offer, block, freshEnd, accepted, afterCall, queuesAfterAccepted, queuesAfterCall, blocksMade, usedIn, bitsOfBlock, taken, blocksTaken}
-use Rattle.sender.specs.Sent.{placedAt, framesOf}
-use Rattle.sender.proofs.BlocksAreQueues.{blocks-are-queues}
+use Rattle.picking.specs.Picking.{enabled, goingRound, orElse, firstWaiting, waitsAt, pickFrom, pick, advanced, served, copiesWaiting}
+use Rattle.writing.specs.NextFrame.{nextPacket, nextFrame}
+use Rattle.sender.specs.Blocks.{System, full, andThen, placing, fill, copiesIn, waiting, filled, enableBits, opening, blockFilled, blockRefusal, senderAfterBlock}
+use Rattle.queues.specs.Queues.{freshQueue, freshQueues, queueAt, copyOf, copiesFrom, messageCopies, offered, offerQueues, frontHas, firstQueue, pickQueueFrom, pickQueue, behindFirst, behind, serveQueues, placedBits, framesBits, takenNone, andTaken, takingFirst, taking, takeUpTo, copiesInQueues, takeFrames}
+use Rattle.queues.specs.Calls.{Call, offer, block, freshEnd, accepted, afterCall, queuesAfterAccepted, queuesAfterCall, blocksMade, usedIn, bitsOfBlock, taken, blocksTaken}
+use Rattle.queues.specs.Sent.{placedAt, framesOf}
+use Rattle.queues.proofs.BlocksAreQueues.{blocks-are-queues}
 use Rattle.receiver.specs.Record.{region, systemPlace, storeLength, freshSlot, fresh, slotAt, open-message, slotInRange, slotsInRange, inRange}
 use Rattle.receiver.specs.Packets.{address, control as controlIn, link, extended, index, lead, segment as segmentIn, circuitIn, numberFrom, descriptor, code, information, enable, malformedSystem, malformed}
 use Rattle.receiver.specs.Notices.{twoBytes, headerLength, messageLength, wrongHeader, isCopy, lossOf, stillOpen, firstFate, lastFate, fateOf, messagePart, closedSlot, slotAfter, placeOf, storeAfter, withSlot, heardAt, heardBy, systemHeard, heard}

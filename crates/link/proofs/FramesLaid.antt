@@ -17,10 +17,10 @@ use Rattle.packet.specs.Packets.{systemPacket}
 use Rattle.packet.proofs.PacketBytes.{length-packetOf, packetOf-Bytes}
 use Rattle.packet.proofs.Segments.{length-segment, segment-Bytes}
 use Rattle.sender.specs.Blocks.{System, opening}
-use Rattle.sender.specs.Queues.{Copy, copyOf, Placed, placedBits, framesBits}
-use Rattle.sender.specs.Calls.{TakenBlock, usedIn, bitsOfBlock}
-use Rattle.sender.proofs.PacketWriting.{linkOf-lt}
-use Rattle.sender.proofs.BlocksAreQueues.{blocks-are-queues}
+use Rattle.queues.specs.Queues.{Copy, copyOf, Placed, placedBits, framesBits}
+use Rattle.queues.specs.Calls.{TakenBlock, usedIn, bitsOfBlock}
+use Rattle.writing.proofs.PacketWriting.{linkOf-lt}
+use Rattle.queues.proofs.BlocksAreQueues.{blocks-are-queues}
 use Rattle.link.specs.Demand3.{Pass, joinedBits, blocks, Frame, frameLength, systemFrames, placedFrames, framesIn, framesInBlocks, frames, BytesIn}
 use Rattle.link.proofs.Steps.{EachIs, EachIs-append, Laid, Ascending, RightCircuit, Made, MadeBy, AllMade}
 use Rattle.link.proofs.FramesMade.{frames-made}

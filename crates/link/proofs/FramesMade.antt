@@ -17,11 +17,11 @@ use Rattle.packet.specs.Packets.{systemPacket}
 use Rattle.packet.proofs.CircuitLists.{circuitsRefusal-zero, listed-listing, listing-refusal}
 use Rattle.sender.specs.Offering.{offerRefusal}
 use Rattle.sender.specs.Blocks.{System, enableBits, opening, blockRefusal}
-use Rattle.sender.specs.Queues.{Copy, Queue, Queues, freshQueue, freshQueues, queueAt, copyOf, copiesFrom, messageCopies, offered, offerQueues, pickQueue, behindFirst, behind, serveQueues, Placed, placedBits, Taken, takenNone, andTaken, takeUpTo, copiesInQueues, takeFrames}
-use Rattle.sender.specs.Calls.{Call, offer, block, End, accepted, afterCall, queuesAfterAccepted, queuesAfterCall, TakenBlock, bitsOfBlock, taken, blocksTaken}
-use Rattle.sender.proofs.Offers.{OfferFacts, offerRefusal-zero}
+use Rattle.queues.specs.Queues.{Copy, Queue, Queues, freshQueue, freshQueues, queueAt, copyOf, copiesFrom, messageCopies, offered, offerQueues, pickQueue, behindFirst, behind, serveQueues, Placed, placedBits, Taken, takenNone, andTaken, takeUpTo, copiesInQueues, takeFrames}
+use Rattle.queues.specs.Calls.{Call, offer, block, End, accepted, afterCall, queuesAfterAccepted, queuesAfterCall, TakenBlock, bitsOfBlock, taken, blocksTaken}
+use Rattle.offering.proofs.Offers.{OfferFacts, offerRefusal-zero}
 use Rattle.sender.proofs.BlockRefusals.{accepted as block-accepted}
-use Rattle.sender.proofs.Queues.{taking-cases}
+use Rattle.queues.proofs.Queues.{taking-cases}
 use Rattle.link.specs.Demand3.{Pass, sender, queues, blocks, systemFrames, placedFrames, framesIn, framesInBlocks, frames, BytesIn}
 use Rattle.link.proofs.Steps.{EachIs, EachIs-append, RightCircuit, Made, MadeSystem, MadeBy, MadeIn, AllMade}
 

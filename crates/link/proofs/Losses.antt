@@ -9,7 +9,7 @@ use lib.ListN.{length, replicate}
 use lib.Dec.{leb, ltb, eqb}
 use borrow.Author.Tests.{leb-true, eq-eqb, ne-eqb}
 use Rattle.bits.proofs.Tests.{and-left, and-right}
-use Rattle.sender.specs.Sent.{Sent, indexIn, Numbered}
+use Rattle.queues.specs.Sent.{Sent, indexIn, Numbered}
 use Rattle.receiver.specs.declared.Slot.{Slot}
 use Rattle.receiver.specs.declared.Fate.{Fate}
 use Rattle.receiver.specs.declared.Fate.the-variants.{Begun, Held, Whole, Orphan, Wrong}

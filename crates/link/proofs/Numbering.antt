@@ -4,8 +4,8 @@ use mathlib.Core.List.{List, [], _∷_}
 use lib.ListN.{length}
 use Rattle.packet.specs.declared.Circuit.{Circuit}
 use Rattle.packet.specs.Messages.{packets}
-use Rattle.sender.specs.Sent.{Numbered}
-use Rattle.sender.proofs.IndexCounts.{Numbered-append, length-packetsFrom, Numbered-packetsFrom}
+use Rattle.queues.specs.Sent.{Numbered}
+use Rattle.queues.proofs.IndexCounts.{Numbered-append, length-packetsFrom, Numbered-packetsFrom}
 use Rattle.link.proofs.Steps.{Offer, packetsOf, sentPackets, Offered}
 
 pub numbered-offers : (k : Circuit) (os : List Offer) (n : ℕ) → Offered n os → Numbered n (sentPackets k os)

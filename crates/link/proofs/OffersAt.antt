@@ -16,14 +16,14 @@ use Rattle.packet.specs.Messages.{packets}
 use Rattle.packet.proofs.CircuitLists.{alike-is, some-circuit-each}
 use Rattle.sender.specs.Offering.{offerRefusal}
 use Rattle.sender.specs.Blocks.{enableBits, opening}
-use Rattle.sender.specs.Queues.{Copy, Queue, Queues, freshQueue, freshQueues, queueAt, messageCopies, offered, offerQueues, behind}
-use Rattle.sender.specs.Calls.{Call, offer, block, End, freshEnd, accepted, afterCall, queuesAfterAccepted, queuesAfterCall}
-use Rattle.sender.specs.Sent.{sends, copiesSent, Sent, copiesOf}
-use Rattle.sender.specs.Stands.{Stands}
-use Rattle.sender.proofs.Offers.{OfferFacts, offerRefusal-zero}
-use Rattle.sender.proofs.Queues.{queueAt-offer, queueAt-offer-other, offer-circuit, length-offer, takeFrames-keeps, length-takeFrames}
-use Rattle.sender.proofs.IndexCounts.{copiesOf-append, copiesFrom-packetsFrom}
-use Rattle.sender.proofs.StandsCalls.{stands-fresh, stands-call}
+use Rattle.queues.specs.Queues.{Copy, Queue, Queues, freshQueue, freshQueues, queueAt, messageCopies, offered, offerQueues, behind}
+use Rattle.queues.specs.Calls.{Call, offer, block, End, freshEnd, accepted, afterCall, queuesAfterAccepted, queuesAfterCall}
+use Rattle.queues.specs.Sent.{sends, copiesSent, Sent, copiesOf}
+use Rattle.queues.specs.Stands.{Stands}
+use Rattle.offering.proofs.Offers.{OfferFacts, offerRefusal-zero}
+use Rattle.queues.proofs.Queues.{queueAt-offer, queueAt-offer-other, offer-circuit, length-offer, takeFrames-keeps, length-takeFrames}
+use Rattle.queues.proofs.IndexCounts.{copiesOf-append, copiesFrom-packetsFrom}
+use Rattle.queues.proofs.StandsCalls.{stands-fresh, stands-call}
 use Rattle.link.specs.Demand3.{Message, sentBy, sentByCalls, BytesIn}
 use Rattle.link.proofs.Steps.{Offer, messageOf, packetsOf, sentPackets, Offered}
 use Rattle.link.proofs.FramesMade.{BytesIn-cons}

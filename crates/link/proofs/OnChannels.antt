@@ -7,7 +7,7 @@ use mathlib.Core.Path.{_≡_, ap, _∙_}
 use lib.ListN.{length}
 use Rattle.packet.specs.Circuits.{circuitsOf}
 use Rattle.packet.specs.Messages.{packets}
-use Rattle.sender.proofs.BlocksAreQueues.{blocks-are-queues}
+use Rattle.queues.proofs.BlocksAreQueues.{blocks-are-queues}
 use Rattle.link.specs.Demand3.{those, Pass, Message, messages, joinedBits, blocks, frames, result, comes, came, allFrom, messagesThatCame, lossesAt, handedOver, notices, Given, noOtherPasses, atMostSixLost, circuitAt, Claim, Demand3}
 use Rattle.link.specs.Channels.{Clean, isPlaced, droppedPieces, OnesOnly}
 use Rattle.link.proofs.Steps.{Laid}

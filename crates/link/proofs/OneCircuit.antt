@@ -21,7 +21,7 @@ use Rattle.packet.specs.Messages.{segment as segmentOf}
 use Rattle.packet.specs.Packets.{packetOf, systemPacket}
 use Rattle.packet.proofs.CircuitLists.{alike-is, alike-self, circuitsRefusal-zero, some-circuit-each, listRefusal-length, listed-listing, listing-refusal}
 use Rattle.packet.proofs.Segments.{length-segment as length-segmentOf}
-use Rattle.sender.specs.Queues.{Copy, copyOf, Placed}
+use Rattle.queues.specs.Queues.{Copy, copyOf, Placed}
 use Rattle.receiver.specs.declared.Slot.{Slot}
 use Rattle.receiver.specs.declared.Receiver.{Receiver}
 use Rattle.receiver.specs.declared.Found.the-variants.{At, Nowhere}

@@ -12,9 +12,9 @@ use Rattle.packet.specs.declared.Circuit.{Circuit}
 use Rattle.packet.specs.Messages.{header, partFrom, packets}
 use Rattle.packet.specs.Messages.{segment as segmentOf}
 use Rattle.packet.proofs.Segments.{length-header}
-use Rattle.sender.specs.Queues.{copyOf}
-use Rattle.sender.specs.Sent.{Sent}
-use Rattle.sender.proofs.IndexCounts.{indexIn-copyOf, packetsFrom}
+use Rattle.queues.specs.Queues.{copyOf}
+use Rattle.queues.specs.Sent.{Sent}
+use Rattle.queues.proofs.IndexCounts.{indexIn-copyOf, packetsFrom}
 use Rattle.receiver.specs.declared.Slot.{Slot}
 use Rattle.receiver.specs.Record.{region, freshSlot, open-message}
 use Rattle.receiver.specs.Packets.{index}

@@ -13,7 +13,7 @@ use Rattle.bits.specs.Bits.{odd, lowBits, byteBits}
 use Rattle.hdlc.specs.Frames.{flag}
 use Rattle.hdlc.proofs.NoSix.{NoSix}
 use Rattle.hdlc.proofs.Ending.{length-flag}
-use Rattle.sender.specs.Calls.{TakenBlock, bitsOfBlock}
+use Rattle.queues.specs.Calls.{TakenBlock, bitsOfBlock}
 use Rattle.link.specs.Demand3.{anyOf, Piece, kept, replaced, Frame, frameLength, framesInBlocks, originals}
 use Rattle.link.specs.Demand3.{Bit, keptBits, newBit, resulting, values, isNumber, beginWith, noOtherPasses}
 use Rattle.link.specs.Channels.{droppedPieces, OnesOnly}

@@ -14,11 +14,11 @@ use Rattle.packet.specs.Circuits.{circuitsOf, circuitsRefusal, alike, listRefus
 use Rattle.packet.specs.Packets.{systemPacket}
 use Rattle.packet.proofs.CircuitLists.{alike-is, circuitsRefusal-zero, listed-listing, listing-refusal}
 use Rattle.sender.specs.Blocks.{System, opening, enableBits}
-use Rattle.sender.specs.Queues.{Copy, Queue, Queues, freshQueues, queueAt, behind, serveQueues, pickQueue, Placed, placedBits, takenNone, andTaken, takeUpTo, copiesInQueues, takeFrames}
-use Rattle.sender.specs.Calls.{Call, offer, block, End, freshEnd, accepted, afterCall, queuesAfterCall, TakenBlock, bitsOfBlock, taken, blocksTaken}
-use Rattle.sender.specs.Sent.{copiesSent, placedAt, framesOf}
-use Rattle.sender.proofs.Queues.{serve-keeps, length-serve, taking-cases}
-use Rattle.sender.proofs.FirstInFirstOut.{queueAt-there, first-in-first-out}
+use Rattle.queues.specs.Queues.{Copy, Queue, Queues, freshQueues, queueAt, behind, serveQueues, pickQueue, Placed, placedBits, takenNone, andTaken, takeUpTo, copiesInQueues, takeFrames}
+use Rattle.queues.specs.Calls.{Call, offer, block, End, freshEnd, accepted, afterCall, queuesAfterCall, TakenBlock, bitsOfBlock, taken, blocksTaken}
+use Rattle.queues.specs.Sent.{copiesSent, placedAt, framesOf}
+use Rattle.queues.proofs.Queues.{serve-keeps, length-serve, taking-cases}
+use Rattle.queues.proofs.FirstInFirstOut.{queueAt-there, first-in-first-out}
 use Rattle.link.specs.Demand3.{anyOf, allOf, those, Pass, messages, blocks, Frame, systemFrames, placedFrames, framesIn, framesInBlocks, frames, result, cameWhole, isCopyOf, comes, came, BytesIn}
 use Rattle.link.proofs.Steps.{isOf, packetsAt, Offer, messageOf, sentPackets, Offered, Thinned, cameOf}
 use Rattle.link.proofs.Numbering.{numbered-offers}

@@ -13,9 +13,9 @@ use Rattle.packet.specs.Circuits.{alike}
 use Rattle.packet.specs.Messages.{packets}
 use Rattle.packet.specs.Packets.{systemPacket}
 use Rattle.framing.specs.Closings.{Closing}
-use Rattle.sender.specs.Queues.{Copy, copyOf, Placed}
-use Rattle.sender.specs.Sent.{Sent}
-use Rattle.sender.proofs.IndexCounts.{packetsFrom}
+use Rattle.queues.specs.Queues.{Copy, copyOf, Placed}
+use Rattle.queues.specs.Sent.{Sent}
+use Rattle.queues.proofs.IndexCounts.{packetsFrom}
 use Rattle.receiver.specs.declared.Slot.{Slot}
 use Rattle.receiver.specs.declared.Receiver.{Receiver}
 use Rattle.receiver.specs.Notices.{Heard, heard, isCopy, lossOf, fateOf, slotAfter, storeAfter}

@@ -6,7 +6,7 @@ use mathlib.Core.List.{List, [], _∷_}
 use mathlib.Core.Path.{_≡_}
 use lib.ListN.{length, replicate}
 use Rattle.packet.specs.declared.Circuit.{Circuit}
-use Rattle.sender.specs.Calls.{TakenBlock, bitsOfBlock}
+use Rattle.queues.specs.Calls.{TakenBlock, bitsOfBlock}
 use Rattle.link.specs.Demand3.{anyOf, Piece, kept, replaced, Pass, joinedBits, frames, isCopyOf}
 
 -- nothing is replaced

@@ -1,5 +1,5 @@
 -- Demand 3, one claim about whole lists of calls (document 01, "What demand 3 counts"), from top to bottom: what was sent, what became of the bits, what
--- came, what the receiver told, what is taken as given, and the claim. The calls are those of the contracts: `Rattle.sender.specs.Calls` and
+-- came, what the receiver told, what is taken as given, and the claim. The calls are those of the contracts: `Rattle.queues.specs.Calls` and
 -- `Rattle.receiver.specs.Reads` have the lists of them, the records and stores between them, and the blocks and notices that they give.
 use Prim.Native.Nat.{ℕ, zero, suc, _+_, _-_, _*_, _<_}
 use mathlib.Core.Bool.{Bool, true, false, cond, not, _&&_, _||_}
@@ -16,9 +16,9 @@ use Rattle.packet.specs.Circuits.{circuitsOf, alike, listRefusal, noCircuit}
 use Rattle.packet.specs.Messages.{packets}
 use Rattle.packet.specs.Packets.{systemPacket}
 use Rattle.sender.specs.Blocks.{System, opening}
-use Rattle.sender.specs.Queues.{Copy, Queues, freshQueues, queueAt, Placed, placedBits}
-use Rattle.sender.specs.Calls.{Call, offer, block, End, freshEnd, accepted, afterCall, queuesAfterCall, blocksMade, TakenBlock, bitsOfBlock, blocksTaken}
-use Rattle.sender.specs.Sent.{placedAt, framesOf}
+use Rattle.queues.specs.Queues.{Copy, Queues, freshQueues, queueAt, Placed, placedBits}
+use Rattle.queues.specs.Calls.{Call, offer, block, End, freshEnd, accepted, afterCall, queuesAfterCall, blocksMade, TakenBlock, bitsOfBlock, blocksTaken}
+use Rattle.queues.specs.Sent.{placedAt, framesOf}
 use Rattle.receiver.specs.declared.Fate.{Fate}
 use Rattle.receiver.specs.declared.Fate.the-variants.{Copy as CopyFate, Begun, Held, Whole, Orphan, Wrong}
 use Rattle.receiver.specs.declared.Notice.{Notice}

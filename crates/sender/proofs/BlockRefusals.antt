@@ -8,8 +8,8 @@ use lib.ListN.{length}
 use lib.Dec.{ltb}
 use borrow.Author.Tests.{ltb-false, lt-ltb, le-ltb, not-false}
 use Rattle.bits.proofs.Tests.{or-left, or-right}
-use Rattle.sender.specs.declared.Sender.{Sender}
-use Rattle.sender.specs.Record.{region, storeLength, inRange}
+use Rattle.offering.specs.declared.Sender.{Sender}
+use Rattle.offering.specs.Record.{region, storeLength, inRange}
 use Rattle.sender.specs.Blocks.{System, blockRefusal}
 use Rattle.sender.specs.BlockCalls.{Allowed}
 

@@ -12,10 +12,10 @@ use borrow.Author.Tests.{ne-eqb}
 use Rattle.bits.specs.Bits.{Bytes}
 use Rattle.hdlc.specs.Writing.{Written}
 use Rattle.hdlc.proofs.Writing.{Written-append}
-use Rattle.sender.specs.declared.Sender.{Sender}
+use Rattle.offering.specs.declared.Sender.{Sender}
+use Rattle.offering.specs.Record.{storeLength, inRange}
 use Rattle.sender.specs.declared.Fill.{Fill}
 use Rattle.sender.specs.declared.Made.the-variants.{Block, Refused}
-use Rattle.sender.specs.Record.{storeLength, inRange}
 use Rattle.sender.specs.Blocks.{System, opening, enableBits, filled, blockFilled, usedBits, blockBits, blockRefusal, senderAfterBlock, bufferAfterBlock}
 use Rattle.sender.specs.BlockCalls.{Allowed, FramesWritten, Closed, madeOf, answerToBlock, BlockCalled}
 use Rattle.sender.proofs.Filling.{filled-used}

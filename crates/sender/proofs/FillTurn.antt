@@ -12,15 +12,16 @@ use borrow.Author.Tests.{leb-true, leb-false, le-leb, lt-leb}
 use Rattle.hdlc.specs.Writing.{Room, Written}
 use Rattle.hdlc.proofs.Ending.{length-flag}
 use Rattle.hdlc.proofs.Writing.{Written-append}
-use Rattle.sender.specs.declared.Sender.{Sender}
+use Rattle.offering.specs.declared.Sender.{Sender}
+use Rattle.offering.specs.Record.{storeLength, slotAt, pending, inRange}
+use Rattle.picking.specs.Picking.{pick, served}
+use Rattle.picking.proofs.PickingLaws.{served-in-range, length-served}
+use Rattle.writing.specs.NextFrame.{nextFrame}
+use Rattle.writing.proofs.FrameLength.{length-nextFrame}
 use Rattle.sender.specs.declared.Fill.{Fill}
-use Rattle.sender.specs.Record.{storeLength, slotAt, pending, inRange}
-use Rattle.sender.specs.Picking.{pick, served}
-use Rattle.sender.specs.Blocks.{Filled, full, andThen, nextFrame, placing, filled}
+use Rattle.sender.specs.Blocks.{Filled, full, andThen, placing, filled}
 use Rattle.sender.specs.BlockCalls.{FramesWritten}
-use Rattle.sender.proofs.PickingLaws.{served-in-range, length-served}
 use Rattle.sender.proofs.Filling.{filled-step}
-use Rattle.sender.proofs.FrameLength.{length-nextFrame}
 
 module _ (s : Sender) (store : List ℕ) (at enable u : ℕ) (e : inRange s ≡ true) (l : length (s .slots) ≡ 4) where
   -- filling ends where none is picked, and where the frame that is would pass u

@@ -1,19 +1,46 @@
--- Filling a block: the number of copies by which the definition recurses is never met before picking ends (`filled-step`); the record
--- stays in range; and what is used is at most U.
+-- Filling a block: serving the picked circuit leaves one copy less to place, so that the number of copies by which the definition recurses is
+-- never met before picking ends (`filled-step`); the record stays in range; and what is used is at most U.
 use mathlib.Core.Path.{_≡_, refl}
-use Prim.Native.Nat.{ℕ, zero, suc, _+_, _≤_}
+use Prim.Native.Nat.{ℕ, zero, suc, _+_, _≤_, _<_}
 use native.Mathlib.Omega.{arith}
 use mathlib.Core.Bool.{Bool, true, false, cond}
-use mathlib.Core.List.{List}
+use mathlib.Core.List.{List, [], _∷_}
 use mathlib.Core.Option.{Option, none, some}
-use lib.ListN.{length, length-append}
+use lib.ListN.{length, take, getD, set, length-append, length-take}
+use lib.Seq.{take-set-lt, getD-take}
 use lib.Dec.{leb}
 use borrow.Author.Tests.{leb-true}
-use Rattle.sender.specs.declared.Sender.{Sender}
-use Rattle.sender.specs.Record.{inRange}
-use Rattle.sender.specs.Picking.{pick, served}
-use Rattle.sender.specs.Blocks.{Filled, full, andThen, nextFrame, placing, fill, filled, waiting}
-use Rattle.sender.proofs.PickingLaws.{served-in-range, waiting-served}
+use Rattle.offering.specs.declared.Slot.{Slot}
+use Rattle.offering.specs.declared.Sender.{Sender}
+use Rattle.offering.specs.Record.{noSlot, slotAt, inRange}
+use Rattle.offering.proofs.Ranges.{inRange-facts, slotInRange-slotAt}
+use Rattle.picking.specs.Picking.{pick, advanced, served, copiesWaiting}
+use Rattle.picking.proofs.PickingLaws.{pick-waits, copies-served, served-in-range}
+use Rattle.writing.specs.NextFrame.{nextFrame}
+use Rattle.sender.specs.Blocks.{Filled, full, andThen, placing, fill, copiesIn, waiting, filled}
+
+-- one copy less waits in all
+copiesIn-set : (ts : List Slot) (i : ℕ) (t : Slot) → i < length ts → copiesWaiting t + 1 ≡ copiesWaiting (getD ts i noSlot)
+    → copiesIn (set ts i t) + 1 ≡ copiesIn ts
+unfolding copiesIn
+copiesIn-set [] i t h e = absurd (omega arith)
+copiesIn-set (x ∷ ts) zero t h e = omega arith
+copiesIn-set (x ∷ ts) (suc i) t h e =
+    let ih : copiesIn (set ts i t) + 1 ≡ copiesIn ts = copiesIn-set ts i t (omega arith) e in
+    omega arith
+
+pub waiting-served : (s : Sender) (enable c : ℕ) → inRange s ≡ true → length (s .slots) ≡ 4 → pick s enable ≡ some c
+    → suc (waiting (served s c)) ≡ waiting s
+unfolding waiting served slotAt
+waiting-served s enable c e l p =
+    let f = inRange-facts s e in
+    let g = pick-waits s enable c p in
+    let n = s .circuits .count in
+    let within : c < length (take n (s .slots)) = rw length-take (omega arith) in
+    let fewer : copiesWaiting (advanced (slotAt s c)) + 1 ≡ copiesWaiting (getD (take n (s .slots)) c noSlot) =
+    rw (getD-take n (s .slots) c noSlot (g .count)) (copies-served (slotAt s c) (slotInRange-slotAt s c e (g .count)) (g .pending)) in
+    rw (take-set-lt n (s .slots) c (advanced (slotAt s c)) (g .count))
+    (omega (arith, copiesIn-set (take n (s .slots)) c (advanced (slotAt s c)) within fewer))
 
 -- where no copy waits none is picked
 pub pick-none : (s : Sender) (enable : ℕ) → inRange s ≡ true → length (s .slots) ≡ 4 → waiting s ≡ 0 → pick s enable ≡ none

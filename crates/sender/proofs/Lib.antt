@@ -1,24 +1,9 @@
--- The laws of `sender`: what its functions' proofs cite, and then what its calls mean.
-pub mod Ranges
-pub mod PickingLaws
+-- The laws of `sender`: what the proofs of its functions cite, and what its blocks hold.
 pub mod Filling
-pub mod Offers
-pub mod PacketWriting
-pub mod FrameLength
 pub mod OpeningBits
 pub mod FillTurn
 pub mod BlockRefusals
 pub mod BlockBits
 pub mod BlockSteps
 pub mod MadeNumbers
-pub mod Queues
-pub mod Stands
-pub mod StandsPick
-pub mod StandsOffer
-pub mod StandsBlock
-pub mod StandsCalls
 pub mod UsedAtMostU
-pub mod BlocksAreQueues
-pub mod IndexCounts
-pub mod FirstInFirstOut
-pub mod Example

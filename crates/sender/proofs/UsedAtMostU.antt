@@ -8,7 +8,7 @@ use lib.ListN.{length, take, length-append, length-replicate}
 use lib.Seq.{take-at}
 use Rattle.bits.specs.Bits.{bitsOf, bytesOf}
 use Rattle.bits.proofs.Bits.{bitsOf-append, bitsOf-fillBytes}
-use Rattle.sender.specs.declared.Sender.{Sender}
+use Rattle.offering.specs.declared.Sender.{Sender}
 use Rattle.sender.specs.Blocks.{System, enableBits, opening, blockFilled, usedBits, blockBits, blockBuffer, blockRefusal, bufferAfterBlock}
 use Rattle.sender.proofs.BlockRefusals.{Accepted, accepted}
 use Rattle.sender.proofs.OpeningBits.{length-opening}

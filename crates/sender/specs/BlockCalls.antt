@@ -8,7 +8,7 @@ use lib.Seq.{sets}
 use lib.Dec.{eqb}
 use Rattle.bits.specs.Bits.{bitsOf}
 use Rattle.hdlc.specs.Writing.{Written}
-use Rattle.sender.specs.declared.Sender.{Sender}
+use Rattle.offering.specs.declared.Sender.{Sender}
 use Rattle.sender.specs.declared.Fill.{Fill}
 use Rattle.sender.specs.declared.Made.{Made}
 use Rattle.sender.specs.declared.Made.the-variants.{Block, Refused}

@@ -8,10 +8,11 @@ use lib.Dec.{leb, ltb, eqb}
 use Rattle.bits.specs.Bits.{bytesOf}
 use Rattle.hdlc.specs.Frames.{flag, frame}
 use Rattle.packet.specs.Packets.{systemPacket}
-use Rattle.sender.specs.declared.Slot.{Slot}
-use Rattle.sender.specs.declared.Sender.{Sender}
-use Rattle.sender.specs.Record.{storeLength, inRange}
-use Rattle.sender.specs.Picking.{pick, nextPacket, served, copiesWaiting}
+use Rattle.offering.specs.declared.Slot.{Slot}
+use Rattle.offering.specs.declared.Sender.{Sender}
+use Rattle.offering.specs.Record.{storeLength, inRange}
+use Rattle.picking.specs.Picking.{pick, served, copiesWaiting}
+use Rattle.writing.specs.NextFrame.{nextFrame}
 
 -- what filling leaves: the record, the bits written and the frames placed
 pub record Filled : Type 0 where
@@ -25,10 +26,6 @@ full s = record { sender = s; bits = []; placed = 0 }
 -- a frame and its flag before what comes behind them
 unfoldable pub andThen : List Bool → Filled → Filled
 andThen bits f = record { sender = f .sender; bits = bits ++ f .bits; placed = suc (f .placed) }
-
--- the frame of the first copy waiting at a circuit, with a flag after it
-unfoldable pub nextFrame : Sender → List ℕ → ℕ → List Bool
-nextFrame s store c = frame (nextPacket s store c) ++ flag
 
 -- what a picked circuit gives: its frame and flag, and what comes later, unless they "would pass U"
 unfoldable pub placing : Option ℕ → Sender → List ℕ → ℕ → ℕ → (ℕ → Filled) → Filled

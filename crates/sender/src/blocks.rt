@@ -8,17 +8,17 @@ ghost use lib.Dec.{leb, ltb};
 ghost use Rattle.hdlc.specs.Frames.{flag, frame};
 ghost use Rattle.hdlc.specs.Writing.{Room, Written};
 ghost use Rattle.packet.specs.Packets.{systemPacket};
-ghost use Rattle.sender.specs.Record.{storeLength, slotAt, pending, inRange};
-ghost use Rattle.sender.specs.Blocks.{nextFrame, filled, opening, blockRefusal};
+ghost use Rattle.offering.specs.Record.{storeLength, slotAt, pending, inRange};
+ghost use Rattle.writing.specs.NextFrame.{nextFrame};
+ghost use Rattle.sender.specs.Blocks.{filled, opening, blockRefusal};
 ghost use Rattle.sender.specs.BlockCalls.{system, Allowed, FramesWritten, Closed, BlockCalled};
 use crate::Fill;
 use crate::Made;
 use crate::Making;
-use crate::Pick;
-use crate::Sender;
-use crate::picking;
-use crate::writing;
 use hdlc::Pen;
+use offering::Sender;
+use picking::Pick;
+use picking::rule;
 
 // The longest frame of a packet, with its flag: 19 bytes and the FCS, stuffed.
 const LONGEST: usize = 209;
@@ -76,7 +76,7 @@ fn fill(buf: &mut [u8], sender: Sender, store: &[u8], at: usize, enable: u8, u: 
     let mut end = at;
     let mut placed: usize = 0;
     loop {
-        let picked = picking::pick(s, enable);
+        let picked = rule::pick(s, enable);
         let Pick::Circuit(circuit) = picked else {
             break;
         };
@@ -84,7 +84,7 @@ fn fill(buf: &mut [u8], sender: Sender, store: &[u8], at: usize, enable: u8, u: 
             break;
         }
         end = writing::put_next(buf, end, s, store, circuit);
-        s = picking::serve(s, circuit);
+        s = rule::serve(s, circuit);
         placed += 1;
     }
     Fill {

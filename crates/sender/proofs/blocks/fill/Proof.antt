@@ -10,10 +10,13 @@ use borrow.Author.Tests.{not-true, not-false}
 use denote.Ref.{now}
 use lib.Dec.{leb}
 use lib.ListN.{length, length-map}
-use Rattle.sender.specs.Picking.{pick}
-use Rattle.sender.specs.Picked.{pickOption}
-use Rattle.sender.specs.Blocks.{nextFrame, waiting}
-use Rattle.sender.proofs.PickingLaws.{slotInRange-slotAt, pick-waits, pick-lt, waiting-served}
+use Rattle.offering.proofs.Ranges.{slotInRange-slotAt}
+use Rattle.picking.specs.Picking.{pick}
+use Rattle.picking.specs.Picked.{pickOption}
+use Rattle.picking.proofs.PickingLaws.{pick-waits, pick-lt}
+use Rattle.writing.specs.NextFrame.{nextFrame}
+use Rattle.sender.specs.Blocks.{waiting}
+use Rattle.sender.proofs.Filling.{waiting-served}
 use Rattle.sender.proofs.FillTurn.{ToFill, ToFill-start, ToFill-none, ToFill-past, ToFill-room, ToFill-step}
 use Rattle.sender.proofs.blocks.fill.Statement.{statement}
 use Rattle.sender.proofs.blocks.fill.Tie as tie

@@ -1,0 +1,3 @@
+-- The definitions of `picking`: which frame is next, and what placing it changes.
+pub mod Picking
+pub mod Picked

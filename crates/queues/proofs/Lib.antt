@@ -1,0 +1,11 @@
+-- The theorems of `queues`: what the sender's calls mean.
+pub mod Queues
+pub mod Stands
+pub mod StandsPick
+pub mod StandsOffer
+pub mod StandsBlock
+pub mod StandsCalls
+pub mod BlocksAreQueues
+pub mod IndexCounts
+pub mod FirstInFirstOut
+pub mod Example

@@ -1,0 +1,133 @@
+-- Lists of calls from a fresh sender: at each moment record and store stand for the queues, and no record that calls made is out of range.
+use Prim.Native.Nat.{ℕ, zero, suc, _*_, _≤_, _<_}
+use native.Mathlib.Omega.{arith}
+use mathlib.Core.Bool.{Bool, true, false, cond}
+use mathlib.Core.List.{List, [], _∷_, _++_, map}
+use mathlib.Core.Path.{_≡_, refl}
+use lib.ListN.{length, take, drop, getD, replicate, length-append, length-take, length-map, getD-replicate, List·getD-append, List·getD-map}
+use lib.Seq.{getD-take, take-take, take-append-seam}
+use lib.Dec.{eqb}
+use borrow.Author.Tests.{eqb-true, eqb-false}
+use Rattle.packet.specs.declared.Circuit.{Circuit}
+use Rattle.packet.specs.Circuits.{circuitsOf, circuitsRefusal, some-circuit, twoAlike, listRefusal, listed, noCircuit, recordOf, listing}
+use Rattle.packet.specs.Messages.{header, packets}
+use Rattle.packet.proofs.CircuitLists.{listing-accepted, listing-refused, listed-listing, listing-refusal, listRefusal-length}
+use Rattle.offering.specs.declared.Sender.{Sender}
+use Rattle.offering.specs.Record.{region, freshSlot, fresh, noSlot, slotAt, messageAt, slotInRange, slotsInRange, inRange}
+use Rattle.offering.specs.Offering.{offerRefusal, offeredSender, offeredStore, senderAfterOffer, storeAfterOffer}
+use Rattle.offering.proofs.Ranges.{facts-inRange}
+use Rattle.sender.specs.Blocks.{System, enableBits, opening, blockFilled, blockRefusal, senderAfterBlock}
+use Rattle.queues.specs.Queues.{Queues, freshQueue, freshQueues, queueAt, copiesFrom, offerQueues, takeFrames}
+use Rattle.queues.specs.Calls.{Call, offer, block, End, freshEnd, accepted, afterCall, afterCalls, queuesAfterAccepted, queuesAfterCall, queuesAfter}
+use Rattle.queues.specs.Stands.{StandsFor, Stands}
+use Rattle.queues.proofs.StandsOffer.{stands-offer}
+use Rattle.queues.proofs.StandsBlock.{stands-block}
+
+-- ---- a fresh sender
+
+slotsInRange-fresh : (n k : ℕ) → slotsInRange (take n (replicate k freshSlot)) ≡ true
+unfolding slotsInRange slotInRange freshSlot packets header
+slotsInRange-fresh zero k = refl
+slotsInRange-fresh (suc n) zero = refl
+slotsInRange-fresh (suc n) (suc k) = slotsInRange-fresh n k
+
+StandsFor-fresh : (k : Circuit) (lent : List ℕ) → StandsFor k freshSlot (take (freshSlot .length) lent) (freshQueue k)
+unfolding freshSlot freshQueue packets header copiesFrom
+StandsFor-fresh k lent = record { done = 0; circuit = refl; message = refl; index = refl; sent = refl; copies = refl }
+
+module _ (cs : List Circuit) (few : length cs ≤ 4) (right : circuitsRefusal cs ≡ 0) (store : List ℕ) where
+  fresh-in-range : inRange (fresh (recordOf cs)) ≡ true
+  unfolding fresh recordOf listed
+  fresh-in-range =
+      facts-inRange (fresh (recordOf cs))
+      (record {
+        count = few;
+        circuits = rw (take-take (length cs) 4 (cs ++ replicate 4 noCircuit) few, take-append-seam cs (replicate 4 noCircuit)) right;
+        last = omega arith;
+        slots = slotsInRange-fresh (length cs) 4;
+      })
+
+  Stands-fresh : Stands (fresh (recordOf cs)) store (freshQueues cs)
+  unfolding fresh recordOf freshQueues slotAt messageAt queueAt
+  Stands-fresh =
+      record {
+        range = fresh-in-range;
+        places = rw (length-take, length-append) (omega arith);
+        slots = refl;
+        count = length-map cs freshQueue;
+        last = refl;
+        each = each;
+      }
+    where
+      each : (c : ℕ) → c < length cs
+          → StandsFor (getD (take 4 (cs ++ replicate 4 noCircuit)) c noCircuit) (getD (replicate 4 freshSlot) c noSlot)
+          (take (getD (replicate 4 freshSlot) c noSlot .length) (drop (region * c) store))
+          (getD (map freshQueue cs) c (freshQueue noCircuit))
+      each c e =
+          let four : c < 4 = omega arith in
+          rw (
+            getD-take 4 (cs ++ replicate 4 noCircuit) c noCircuit four,
+            List·getD-append cs (replicate 4 noCircuit) noCircuit c e,
+            getD-replicate 4 c freshSlot noSlot four,
+            List·getD-map freshQueue cs c noCircuit,
+          )
+          (StandsFor-fresh (getD cs c noCircuit) (drop (region * c) store))
+
+-- the record that an accepted listing returned, and any first store
+pub stands-fresh : (bytes store : List ℕ) → listRefusal bytes ≡ 0 → Stands (fresh (listing bytes)) store (freshQueues (circuitsOf bytes))
+stands-fresh bytes store e =
+    let right : circuitsRefusal (circuitsOf bytes) ≡ 0 = rw (listed-listing bytes e) at (listing-refusal bytes) in
+    rw (listing-accepted bytes e) (Stands-fresh (circuitsOf bytes) (listRefusal-length bytes e .1) right store)
+
+-- the record of no circuits, which a refused one returned
+pub stands-refused : (bytes store : List ℕ) → (listRefusal bytes ≡ 0 → ⊥) → Stands (fresh (listing bytes)) store (freshQueues [])
+unfolding circuitsRefusal some-circuit twoAlike
+stands-refused bytes store e = rw (listing-refused bytes e) (Stands-fresh [] (omega arith) refl store)
+
+-- ---- calls
+
+module _ (s : Sender) (store : List ℕ) (q : Queues) (h : Stands s store q) where
+  stands-offer-call : (c priority repetition : ℕ) (message : List ℕ) (b : Bool)
+      → eqb (offerRefusal s store c priority repetition message) 0 ≡ b
+      → Stands (cond b (offeredSender s c priority repetition message) s) (cond b (offeredStore store c message) store)
+      (cond b (offerQueues q c priority repetition message) q)
+  stands-offer-call c priority repetition message true e =
+      stands-offer s store q h c priority repetition message (eqb-true (offerRefusal s store c priority repetition message) 0 e)
+  stands-offer-call c priority repetition message false e = h
+
+  stands-block-call : (u : ℕ) (y : System) (b : Bool)
+      → Stands (cond b (blockFilled s store u y .sender) s) store (cond b (takeFrames q (length (opening y)) (enableBits y) u .queues) q)
+  stands-block-call u y true = stands-block s store q u y h .stands
+  stands-block-call u y false = h
+
+pub stands-call : (call : Call) (e : End) (q : Queues) → Stands (e .sender) (e .store) q
+    → Stands (afterCall e call .sender) (afterCall e call .store) (queuesAfterCall e q call)
+unfolding afterCall queuesAfterCall accepted queuesAfterAccepted senderAfterOffer storeAfterOffer senderAfterBlock
+stands-call (offer c priority repetition message) e q h =
+    stands-offer-call (e .sender) (e .store) q h c priority repetition message
+    (eqb (offerRefusal (e .sender) (e .store) c priority repetition message) 0) refl
+stands-call (block n u buffer y) e q h =
+    stands-block-call (e .sender) (e .store) q h u y (eqb (blockRefusal (e .sender) (e .store) buffer n u y) 0)
+
+Stands-afterCalls : (calls : List Call) (e : End) (q : Queues) → Stands (e .sender) (e .store) q
+    → Stands (afterCalls e calls .sender) (afterCalls e calls .store) (queuesAfter e q calls)
+unfolding afterCalls queuesAfter
+Stands-afterCalls [] e q h = h
+Stands-afterCalls (call ∷ calls) e q h = Stands-afterCalls calls (afterCall e call) (queuesAfterCall e q call) (stands-call call e q h)
+
+-- whatever the calls, record and store stand for the queues
+pub stands-calls : (bytes store : List ℕ) (calls : List Call) → listRefusal bytes ≡ 0
+    → Stands (afterCalls (freshEnd bytes store) calls .sender) (afterCalls (freshEnd bytes store) calls .store)
+    (queuesAfter (freshEnd bytes store) (freshQueues (circuitsOf bytes)) calls)
+stands-calls bytes store calls e =
+    Stands-afterCalls calls (freshEnd bytes store) (freshQueues (circuitsOf bytes)) (stands-fresh bytes store e)
+
+-- "14 a record out of range ..., which no record made by calls is"
+pub never-14 : (bytes store : List ℕ) (calls : List Call) → inRange (afterCalls (freshEnd bytes store) calls .sender) ≡ true
+never-14 bytes store calls = go (eqb (listRefusal bytes) 0) refl
+  where
+    go : (b : Bool) → eqb (listRefusal bytes) 0 ≡ b → inRange (afterCalls (freshEnd bytes store) calls .sender) ≡ true
+    go true e = stands-calls bytes store calls (eqb-true (listRefusal bytes) 0 e) .range
+    go false e =
+        Stands-afterCalls calls (freshEnd bytes store) (freshQueues [])
+        (stands-refused bytes store (eqb-false (listRefusal bytes) 0 e)) .range

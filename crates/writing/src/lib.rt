@@ -1,0 +1,205 @@
+// The frame of the first copy waiting at a circuit, written or only measured. No byte of the packet is kept: each is
+// stuffed, or passed, as it is known.
+ghost use mathlib.Core.Path.{_≡_};
+ghost use mathlib.Core.Bool.{true};
+ghost use mathlib.Core.List.{_++_};
+ghost use Prim.Native.Nat.{_+_, _*_, _^_, _≤_, _<_};
+ghost use lib.ListN.{length, take, drop};
+ghost use Rattle.bits.specs.Bits.{bitsOf};
+ghost use Rattle.hdlc.specs.Frames.{flag, frame};
+ghost use Rattle.hdlc.specs.Writing.{Room, Written, Stuffed, stuffedBy, penAfter};
+ghost use Rattle.offering.specs.Record.{region, storeLength, slotAt, pending, slotInRange, inRange};
+ghost use Rattle.writing.specs.NextFrame.{nextFrame};
+ghost use Rattle.writing.specs.PacketParts.{packetAt, controlAt, addressAt, headerAt, leadOf, partAt};
+use hdlc::Pen;
+use hdlc::counting;
+use offering::Sender;
+use offering::Slot;
+use packet::Circuit;
+use packet::Part;
+
+// The control byte of a slot's next packet.
+fn control_byte(circuit: Circuit, slot: Slot) -> u8
+    requires { ⌜ slotInRange slot ≡ true ⌝ }
+    requires { ⌜ circuit .extended < 2 ⌝ }
+    ensures { λ r. ⌜ r ≡ controlAt circuit slot ⌝ }
+{
+    let place = slot.place as usize;
+    let packets = packet::packets(slot.length as usize);
+    packet::control(
+        packet::link(place, packets),
+        circuit.extended,
+        slot.index,
+        slot.priority,
+    )
+}
+
+// The address, the control byte and the extension, where present, of a slot's next packet, written at the pen.
+fn put_address(buf: &mut [u8], pen: Pen, circuit: Circuit, slot: Slot) -> Pen
+    requires { ⌜ slotInRange slot ≡ true ⌝ }
+    requires { ⌜ circuit .extended < 2 ⌝ }
+    requires { ⌜ Room (now buf) (pen .at) (stuffedBy pen (bitsOf (addressAt circuit slot))) ⌝ }
+    ensures { λ r. ⌜ Stuffed (now (buf .entry)) pen (bitsOf (addressAt circuit slot)) (now (buf .exit)) r ⌝ }
+{
+    let p = hdlc::stuff_byte(buf, pen, circuit.address);
+    let q = hdlc::stuff_byte(buf, p, control_byte(circuit, slot));
+    if circuit.extended == 0 {
+        return q;
+    }
+    hdlc::stuff_byte(buf, q, circuit.extension)
+}
+
+// The header of a slot's message written at the pen, if its next packet is the first.
+fn put_header(buf: &mut [u8], pen: Pen, slot: Slot) -> Pen
+    requires { ⌜ slotInRange slot ≡ true ⌝ }
+    requires { ⌜ Room (now buf) (pen .at) (stuffedBy pen (bitsOf (headerAt slot))) ⌝ }
+    ensures { λ r. ⌜ Stuffed (now (buf .entry)) pen (bitsOf (headerAt slot)) (now (buf .exit)) r ⌝ }
+{
+    if slot.place != 0 {
+        return pen;
+    }
+    let n = slot.length as usize;
+    let p = hdlc::stuff_byte(buf, pen, packet::header_first(n));
+    if packet::header_length(n) == 1 {
+        return p;
+    }
+    hdlc::stuff_byte(buf, p, packet::header_second(n))
+}
+
+// What stands before the message's bytes in a slot's next packet, written at the pen.
+fn put_lead(buf: &mut [u8], pen: Pen, circuit: Circuit, slot: Slot) -> Pen
+    requires { ⌜ slotInRange slot ≡ true ⌝ }
+    requires { ⌜ circuit .extended < 2 ⌝ }
+    requires { ⌜ Room (now buf) (pen .at) (stuffedBy pen (bitsOf (leadOf circuit slot))) ⌝ }
+    ensures { λ r. ⌜ Stuffed (now (buf .entry)) pen (bitsOf (leadOf circuit slot)) (now (buf .exit)) r ⌝ }
+{
+    let p = put_address(buf, pen, circuit, slot);
+    put_header(buf, p, slot)
+}
+
+// The pen behind the address, the control byte and the extension, where present, of a slot's next packet.
+fn pass_address(pen: Pen, circuit: Circuit, slot: Slot) -> Pen
+    requires { ⌜ slotInRange slot ≡ true ⌝ }
+    requires { ⌜ circuit .extended < 2 ⌝ }
+    requires { ⌜ pen .at + length (stuffedBy pen (bitsOf (addressAt circuit slot))) < 2 ^ 64 ⌝ }
+    ensures { λ r. ⌜ r ≡ penAfter pen (bitsOf (addressAt circuit slot)) ⌝ }
+{
+    let p = counting::pass_byte(pen, circuit.address);
+    let q = counting::pass_byte(p, control_byte(circuit, slot));
+    if circuit.extended == 0 {
+        return q;
+    }
+    counting::pass_byte(q, circuit.extension)
+}
+
+// The pen behind the header of a slot's message, if its next packet is the first.
+fn pass_header(pen: Pen, slot: Slot) -> Pen
+    requires { ⌜ slotInRange slot ≡ true ⌝ }
+    requires { ⌜ pen .at + length (stuffedBy pen (bitsOf (headerAt slot))) < 2 ^ 64 ⌝ }
+    ensures { λ r. ⌜ r ≡ penAfter pen (bitsOf (headerAt slot)) ⌝ }
+{
+    if slot.place != 0 {
+        return pen;
+    }
+    let n = slot.length as usize;
+    let p = counting::pass_byte(pen, packet::header_first(n));
+    if packet::header_length(n) == 1 {
+        return p;
+    }
+    counting::pass_byte(p, packet::header_second(n))
+}
+
+// The pen behind what stands before the message's bytes in a slot's next packet.
+fn pass_lead(pen: Pen, circuit: Circuit, slot: Slot) -> Pen
+    requires { ⌜ slotInRange slot ≡ true ⌝ }
+    requires { ⌜ circuit .extended < 2 ⌝ }
+    requires { ⌜ pen .at + length (stuffedBy pen (bitsOf (leadOf circuit slot))) < 2 ^ 64 ⌝ }
+    ensures { λ r. ⌜ r ≡ penAfter pen (bitsOf (leadOf circuit slot)) ⌝ }
+{
+    let p = pass_address(pen, circuit, slot);
+    pass_header(p, slot)
+}
+
+// The part of the message in a slot's next packet.
+fn part_of(slot: Slot, message: &[u8]) -> &[u8]
+    requires { ⌜ pending slot ≡ true ⌝ }
+    requires { ⌜ length (now message) ≡ slot .length ⌝ }
+    ensures { λ r. ⌜ now r ≡ partAt slot (now (message .entry)) ⌝ }
+{
+    let part = Part::of(slot.length as usize, slot.place as usize);
+    let from = part.from;
+    let to = from + part.len;
+    &message[from..to]
+}
+
+// The frame of a slot's next packet written at bit `at`, and the flag behind it.
+pub fn put_packet(buf: &mut [u8], at: usize, circuit: Circuit, slot: Slot, message: &[u8]) -> usize
+    requires { ⌜ slotInRange slot ≡ true ⌝ }
+    requires { ⌜ pending slot ≡ true ⌝ }
+    requires { ⌜ circuit .extended < 2 ⌝ }
+    requires { ⌜ length (now message) ≡ slot .length ⌝ }
+    requires { ⌜ Room (now buf) at (frame (packetAt circuit slot (now message)) ++ flag) ⌝ }
+    ensures { λ r. ⌜ Written (now (buf .entry)) at (frame (packetAt circuit slot (now (message .entry))) ++ flag) (now (buf .exit)) r ⌝ }
+{
+    let pen = put_lead(buf, Pen::new(at), circuit, slot);
+    let end = hdlc::stuff_bytes(buf, pen, part_of(slot, message));
+    hdlc::end_frame(buf, end)
+}
+
+// The number of bits of the frame of a slot's next packet, and of the flag behind it.
+pub fn packet_length(circuit: Circuit, slot: Slot, message: &[u8]) -> usize
+    requires { ⌜ slotInRange slot ≡ true ⌝ }
+    requires { ⌜ pending slot ≡ true ⌝ }
+    requires { ⌜ circuit .extended < 2 ⌝ }
+    requires { ⌜ length (now message) ≡ slot .length ⌝ }
+    ensures { λ r. ⌜ r ≡ length (frame (packetAt circuit slot (now (message .entry))) ++ flag) ⌝ }
+{
+    let pen = pass_lead(Pen::new(0), circuit, slot);
+    let end = counting::pass_bytes(pen, part_of(slot, message));
+    counting::pass_end(end)
+}
+
+// The message of a circuit's slot, at the start of its region.
+fn message_at(slot: Slot, store: &[u8], circuit: usize) -> &[u8]
+    requires { ⌜ slot .length ≤ 4094 ⌝ }
+    requires { ⌜ circuit < 4 ⌝ }
+    requires { ⌜ storeLength ≤ length (now store) ⌝ }
+    ensures { λ r. ⌜ now r ≡ take (slot .length) (drop (region * circuit) (now (store .entry))) ⌝ }
+{
+    let from = 4096 * circuit;
+    let to = from + slot.length as usize;
+    &store[from..to]
+}
+
+// The frame of the first copy waiting at a circuit written at bit `at`, and the flag behind it.
+pub fn put_next(buf: &mut [u8], at: usize, sender: Sender, store: &[u8], circuit: usize) -> usize
+    requires { ⌜ inRange sender ≡ true ⌝ }
+    requires { ⌜ circuit < sender .circuits .count ⌝ }
+    requires { ⌜ pending (slotAt sender circuit) ≡ true ⌝ }
+    requires { ⌜ storeLength ≤ length (now store) ⌝ }
+    requires { ⌜ Room (now buf) at (nextFrame sender (now store) circuit) ⌝ }
+    ensures { λ r. ⌜ Written (now (buf .entry)) at (nextFrame sender (now (store .entry)) circuit) (now (buf .exit)) r ⌝ }
+{
+    let circuits = sender.circuits;
+    let list = circuits.list;
+    let slots = sender.slots;
+    let listed = list[circuit];
+    let slot = slots[circuit];
+    put_packet(buf, at, listed, slot, message_at(slot, store, circuit))
+}
+
+// The number of bits of the frame of the first copy waiting at a circuit, and of the flag behind it.
+pub fn next_length(sender: Sender, store: &[u8], circuit: usize) -> usize
+    requires { ⌜ inRange sender ≡ true ⌝ }
+    requires { ⌜ circuit < sender .circuits .count ⌝ }
+    requires { ⌜ pending (slotAt sender circuit) ≡ true ⌝ }
+    requires { ⌜ storeLength ≤ length (now store) ⌝ }
+    ensures { λ r. ⌜ r ≡ length (nextFrame sender (now (store .entry)) circuit) ⌝ }
+{
+    let circuits = sender.circuits;
+    let list = circuits.list;
+    let slots = sender.slots;
+    let listed = list[circuit];
+    let slot = slots[circuit];
+    packet_length(listed, slot, message_at(slot, store, circuit))
+}
