@@ -36,7 +36,7 @@ length-storeAfter Begun c t p store = rw length-sets
 length-storeAfter Held c t p store = rw length-sets
 length-storeAfter (Whole n) c t p store = rw length-sets
 length-storeAfter Orphan c t p store = refl
-length-storeAfter Wrong c t p store = refl
+length-storeAfter Wrong c t p store = search length-sets
 
 length-heardBy : (n : Option ℕ) (r : Receiver) (store p : List ℕ) → length (heardBy n r store p .store) ≡ length store
 unfolding heardBy heardAt
