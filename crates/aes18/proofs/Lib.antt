@@ -1,0 +1,4 @@
+-- The laws of `aes18`: what its functions' proofs cite.
+pub mod Clipping
+pub mod SenderOutcomes
+pub mod ReceiverOutcomes

@@ -1,0 +1,170 @@
+// The AES18 user-bit channel for C and Rust: the calls of document 01 over records and answers laid out in bytes (include/aes18.h).
+
+use layout::answers;
+use layout::clipped;
+use layout::receiving;
+use layout::sending;
+use receiver::Read;
+use receiver::Receiver;
+use sender::Made;
+use sender::Sender;
+use sender::blocks::make_block;
+ghost use mathlib.Core.Path.{_≡_};
+ghost use Rattle.aes18.specs.SenderCalls as sends;
+ghost use Rattle.aes18.specs.SenderCalls.{systemAsked};
+ghost use Rattle.aes18.specs.ReceiverCalls as receives;
+
+// The answer where a record or an answer is shorter than it has to be.
+const NO_ROOM: u32 = 255;
+
+// A sender's record, for the circuits of a list.
+#[no_mangle]
+pub extern "C" fn aes18_sender_list(record: &mut [u8], list: &[u8]) -> u32
+    ensures { λ r. ⌜ (r ≡ sends.listNumber (now («record» .entry)) (now (list .entry)))
+        × (now («record» .exit) ≡ sends.listRecord (now («record» .entry)) (now (list .entry))) ⌝ }
+{
+    if record.len() < sending::LENGTH {
+        return NO_ROOM;
+    }
+    let listed = Sender::list(list);
+    let answer = listed.answer;
+    let sender = listed.sender;
+    sending::put_sender(record, sender);
+    answers::answer_number(answer)
+}
+
+// A message is offered at a circuit.
+#[no_mangle]
+pub extern "C" fn aes18_sender_offer(
+    record: &mut [u8],
+    store: &mut [u8],
+    circuit: u64,
+    priority: u64,
+    repetition: u64,
+    message: &[u8],
+) -> u32
+    ensures { λ r. ⌜ (r ≡ sends.offerNumber (now («record» .entry)) (now (store .entry)) circuit priority repetition (now (message .entry)))
+        × (now («record» .exit) ≡ sends.offerRecord (now («record» .entry)) (now (store .entry)) circuit priority repetition (now (message .entry)))
+        × (now (store .exit) ≡ sends.offerStore (now («record» .entry)) (now (store .entry)) circuit priority repetition (now (message .entry))) ⌝ }
+{
+    if record.len() < sending::LENGTH {
+        return NO_ROOM;
+    }
+    let sender = sending::sender_in(record);
+    let p = clipped(priority);
+    let r = clipped(repetition);
+    let offered = sender.offer(store, circuit as usize, p, r, message);
+    let answer = offered.answer;
+    let number = answers::answer_number(answer);
+    if number != 0 {
+        return number;
+    }
+    let after = offered.sender;
+    sending::put_sender(record, after);
+    0
+}
+
+// A block of n bits, of which u may be used, with a system packet where `system` is not 0.
+#[no_mangle]
+pub extern "C" fn aes18_sender_block(
+    record: &mut [u8],
+    store: &[u8],
+    n: u64,
+    u: u64,
+    system: u64,
+    enable: u64,
+    code: u64,
+    info: &[u8],
+    block: &mut [u8],
+    answer: &mut [u8],
+) -> u32
+    ensures { λ r. ⌜ (r ≡ sends.blockNumber (now («record» .entry)) (now (store .entry)) n u (systemAsked system enable code (now (info .entry))) (now (block .entry)) (now (answer .entry)))
+        × (now («record» .exit) ≡ sends.blockRecord (now («record» .entry)) (now (store .entry)) n u (systemAsked system enable code (now (info .entry))) (now (block .entry)) (now (answer .entry)))
+        × (now (block .exit) ≡ sends.blockBlock (now («record» .entry)) (now (store .entry)) n u (systemAsked system enable code (now (info .entry))) (now (block .entry)) (now (answer .entry)))
+        × (now (answer .exit) ≡ sends.blockAnswer (now («record» .entry)) (now (store .entry)) n u (systemAsked system enable code (now (info .entry))) (now (block .entry)) (now (answer .entry))) ⌝ }
+{
+    if record.len() < sending::LENGTH {
+        return NO_ROOM;
+    }
+    if answer.len() < answers::BLOCK {
+        return NO_ROOM;
+    }
+    let sender = sending::sender_in(record);
+    let e = clipped(enable);
+    let c = clipped(code);
+    let making = make_block(
+        sender,
+        store,
+        block,
+        n as usize,
+        u as usize,
+        system != 0,
+        e,
+        c,
+        info,
+    );
+    let made = making.made;
+    let after = making.sender;
+    match made {
+        Made::Block { placed, used } => {
+            sending::put_sender(record, after);
+            answers::put_block_answer(answer, placed, used);
+            0
+        }
+        Made::Refused(number) => number as u32,
+    }
+}
+
+// A receiver's record, for the circuits of a list.
+#[no_mangle]
+pub extern "C" fn aes18_receiver_list(record: &mut [u8], list: &[u8]) -> u32
+    ensures { λ r. ⌜ (r ≡ receives.listNumber (now («record» .entry)) (now (list .entry)))
+        × (now («record» .exit) ≡ receives.listRecord (now («record» .entry)) (now (list .entry))) ⌝ }
+{
+    if record.len() < receiving::LENGTH {
+        return NO_ROOM;
+    }
+    let listed = Receiver::list(list);
+    let answer = listed.answer;
+    let receiver = listed.receiver;
+    receiving::put_receiver(record, receiver);
+    answers::answer_number(answer)
+}
+
+// The bits from number `from` up to `to` are read until the first notice.
+#[no_mangle]
+pub extern "C" fn aes18_receiver_read(
+    record: &mut [u8],
+    store: &mut [u8],
+    bits: &[u8],
+    from: u64,
+    to: u64,
+    answer: &mut [u8],
+) -> u32
+    ensures { λ r. ⌜ (r ≡ receives.readNumber (now («record» .entry)) (now (store .entry)) (now (bits .entry)) from to (now (answer .entry)))
+        × (now («record» .exit) ≡ receives.readRecord (now («record» .entry)) (now (store .entry)) (now (bits .entry)) from to (now (answer .entry)))
+        × (now (store .exit) ≡ receives.readStore (now («record» .entry)) (now (store .entry)) (now (bits .entry)) from to (now (answer .entry)))
+        × (now (answer .exit) ≡ receives.readAnswer (now («record» .entry)) (now (store .entry)) (now (bits .entry)) from to (now (answer .entry))) ⌝ }
+{
+    if record.len() < receiving::LENGTH {
+        return NO_ROOM;
+    }
+    if answer.len() < answers::READ {
+        return NO_ROOM;
+    }
+    if !receiving::is_receiver(record) {
+        return 14;
+    }
+    let receiver = receiving::receiver_in(record);
+    let reading = receiver.read(store, bits, from as usize, to as usize);
+    let read = reading.read;
+    let after = reading.receiver;
+    match read {
+        Read::Told(notice) => {
+            receiving::put_receiver(record, after);
+            answers::put_read_answer(answer, notice, reading.bits);
+            0
+        }
+        Read::Refused(number) => number as u32,
+    }
+}

@@ -1,0 +1,61 @@
+-- `layout::receiving::slot_bytes` meets its contract, byte by byte.
+use mathlib.Core.Path.{_≡_, refl}
+use mathlib.Core.Bool.{Bool, true, false}
+use mir.Val.{boolByte}
+use borrow.Author.Needs.{needs}
+use Rattle.bits.specs.Bits.{bitValue}
+use Rattle.layout.specs.Layout.{lowBytes}
+use Rattle.layout.specs.ReceiverBytes.{slotBytes}
+use Rattle.layout.proofs.receiving.slot_bytes.Statement.{statement}
+use Rattle.layout.proofs.receiving.slot_bytes.Tie as tie
+
+-- a bool as a byte
+boolByte-bitValue : (b : Bool) → boolByte b ≡ bitValue b
+unfolding bitValue
+boolByte-bitValue true = refl
+boolByte-bitValue false = refl
+
+cast-length : tie.Need-cast-length
+cast-length c = search needs
+
+cast-place : tie.Need-cast-place
+cast-place c = search needs
+
+cast-t4 : tie.Need-cast-t4
+cast-t4 c = search needs
+
+low-byte-requires : tie.Need-low-byte-requires
+low-byte-requires c κs = search needs
+
+low-byte-requires-2 : tie.Need-low-byte-requires-2
+low-byte-requires-2 c κs = search needs
+
+low-byte-requires-3 : tie.Need-low-byte-requires-3
+low-byte-requires-3 c κs = search needs
+
+low-byte-requires-4 : tie.Need-low-byte-requires-4
+low-byte-requires-4 c κs = search needs
+
+returns : tie.Need-returns
+unfolding slotBytes lowBytes
+returns c =
+    rw (
+      boolByte-bitValue (c .before .before .before .before .before .before .before .args .t .seen),
+      c .before .before .before .low-byte .ensures,
+      c .before .before .low-byte2 .ensures,
+      c .before .low-byte3 .ensures,
+      c .low-byte4 .ensures,
+    )
+
+pub slot-bytes-spec : {M : Type 1} → statement M
+slot-bytes-spec =
+    tie.close
+    (tie.spec
+    cast-length
+    cast-place
+    cast-t4
+    low-byte-requires
+    low-byte-requires-2
+    low-byte-requires-3
+    low-byte-requires-4
+    returns)

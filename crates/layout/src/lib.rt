@@ -1,0 +1,97 @@
+// Records and answers laid out in bytes (specs/ has the layouts). Here is what both ends share: numbers of several bytes and the circuits of a record.
+
+pub mod answers;
+pub mod receiving;
+pub mod sending;
+
+ghost use mathlib.Core.Path.{_≡_};
+ghost use Prim.Native.Nat.{_+_, _%_, _≤_, min};
+ghost use lib.ListN.{length};
+ghost use Rattle.layout.specs.Layout.{wordAt, circuitAt, circuitsBytes, circuitsIn};
+use packet::Circuit;
+use packet::Circuits;
+
+// The lowest byte of a number.
+fn low_byte(n: usize) -> u8
+    ensures { λ r. ⌜ r ≡ n % 256 ⌝ }
+{
+    (n % 256) as u8
+}
+
+// A byte as a wider number.
+fn wide(b: u8) -> u16
+    ensures { λ r. ⌜ (r ≡ b) × (r ≤ 255) ⌝ }
+{
+    b as u16
+}
+
+// The number in two bytes, lowest first.
+fn word_at(bytes: &[u8], at: usize) -> u16
+    requires { ⌜ at + 2 ≤ length (now bytes) ⌝ }
+    ensures { λ r. ⌜ r ≡ wordAt (now (bytes .entry)) at ⌝ }
+{
+    wide(bytes[at]) + 256 * wide(bytes[at + 1])
+}
+
+// The circuit in three bytes.
+fn circuit_at(bytes: &[u8], at: usize) -> Circuit
+    requires { ⌜ at + 3 ≤ length (now bytes) ⌝ }
+    ensures { λ r. ⌜ r ≡ circuitAt (now (bytes .entry)) at ⌝ }
+{
+    Circuit {
+        address: bytes[at],
+        extended: bytes[at + 1],
+        extension: bytes[at + 2],
+    }
+}
+
+// The circuits that a record begins with.
+fn circuits_in(bytes: &[u8]) -> Circuits
+    requires { ⌜ 13 ≤ length (now bytes) ⌝ }
+    ensures { λ r. ⌜ r ≡ circuitsIn (now (bytes .entry)) ⌝ }
+{
+    let first = circuit_at(bytes, 1);
+    let second = circuit_at(bytes, 4);
+    let third = circuit_at(bytes, 7);
+    let fourth = circuit_at(bytes, 10);
+    Circuits {
+        count: bytes[0],
+        list: [first, second, third, fourth],
+    }
+}
+
+// The bytes of a record's circuits.
+fn circuits_bytes(circuits: Circuits) -> [u8; 13]
+    ensures { λ r. ⌜ r ≡ circuitsBytes circuits ⌝ }
+{
+    let list = circuits.list;
+    let a = list[0];
+    let b = list[1];
+    let c = list[2];
+    let d = list[3];
+    [
+        circuits.count,
+        a.address,
+        a.extended,
+        a.extension,
+        b.address,
+        b.extended,
+        b.extension,
+        c.address,
+        c.extended,
+        c.extension,
+        d.address,
+        d.extended,
+        d.extension,
+    ]
+}
+
+// A number as a byte, 255 if it is larger: no number that a call takes in a byte goes so far.
+pub fn clipped(n: u64) -> u8
+    ensures { λ r. ⌜ r ≡ min n 255 ⌝ }
+{
+    if 255 < n {
+        return 255;
+    }
+    n as u8
+}
