@@ -1,19 +1,19 @@
 -- What the receiver's exported functions answer and leave where there is no room, where the call is refused and where it is accepted.
 use Prim.Native.Nat.{ℕ, _≤_, _<_}
-use mathlib.Core.Bool.{Bool, true, false, cond, _||_}
+use mathlib.Core.Bool.{Bool, true, false, cond}
 use mathlib.Core.List.{List}
 use mathlib.Core.Path.{_≡_, refl, ap, sym, _∙_}
-use borrow.Author.Tests.{lt-ltb, le-ltb, ne-eqb, eqb-true, eqb-false}
+use borrow.Author.Tests.{lt-ltb, le-ltb, eqb-true}
 use lib.ListN.{length}
 use lib.Seq.{sets}
-use lib.Dec.{ltb, eqb}
+use lib.Dec.{eqb}
 use Rattle.packet.specs.Circuits.{listRefusal, listing}
 use Rattle.receiver.specs.declared.Receiver.{Receiver}
 use Rattle.receiver.specs.declared.Notice.{Notice}
 use Rattle.receiver.specs.declared.Read.the-variants.{Told, Refused}
 use Rattle.receiver.specs.declared.Reading.{Reading}
 use Rattle.receiver.specs.Record.{fresh}
-use Rattle.receiver.specs.Reading.{readScan, readBy, readRefusal, receiverAfterRead, storeAfterRead, bitsRead, readOf, answerToRead, ReadCalled}
+use Rattle.receiver.specs.Reading.{storeAfterRead, readOf, answerToRead, ReadCalled}
 use Rattle.layout.specs.ReceiverBytes.{receiverBytes, receiverIn, isReceiver}
 use Rattle.layout.specs.Answers.{readAnswerBytes}
 use Rattle.aes18.specs.Room.{noRoom}

@@ -1,13 +1,12 @@
 -- What the sender's exported functions answer and leave where there is no room, where the call is refused and where it is accepted.
-use Prim.Native.Nat.{ℕ, _≤_, _<_}
-use mathlib.Core.Bool.{Bool, true, false, cond, _||_}
+use Prim.Native.Nat.{ℕ, _≤_, _<_, min}
+use mathlib.Core.Bool.{Bool, true, false, cond}
 use mathlib.Core.List.{List}
 use mathlib.Core.Path.{_≡_, refl, ap, sym, _∙_}
-use native.Mathlib.Omega.{arith}
-use borrow.Author.Tests.{lt-ltb, le-ltb, ne-eqb, eqb-true, eqb-false}
+use borrow.Author.Tests.{lt-ltb, le-ltb, ne-eqb, eqb-true}
 use lib.ListN.{length}
 use lib.Seq.{sets}
-use lib.Dec.{ltb, eqb}
+use lib.Dec.{eqb}
 use Rattle.packet.specs.declared.Answer.{Answer}
 use Rattle.packet.specs.Answers.{answerNumber, answerOf}
 use Rattle.packet.specs.Circuits.{listRefusal, listing}
@@ -17,8 +16,8 @@ use Rattle.sender.specs.declared.Made.the-variants.{Block, Refused}
 use Rattle.sender.specs.declared.Making.{Making}
 use Rattle.offering.specs.Record.{fresh}
 use Rattle.offering.specs.Offering.{offerRefusal, senderAfterOffer, storeAfterOffer}
-use Rattle.sender.specs.Blocks.{System, blockFilled, usedBits, blockRefusal, senderAfterBlock, bufferAfterBlock}
-use Rattle.sender.specs.BlockCalls.{madeOf, answerToBlock, BlockCalled}
+use Rattle.sender.specs.Blocks.{System, bufferAfterBlock}
+use Rattle.sender.specs.BlockCalls.{system, madeOf, answerToBlock, BlockCalled}
 use Rattle.layout.specs.SenderBytes.{senderBytes, senderIn}
 use Rattle.layout.specs.Answers.{blockAnswerBytes}
 use Rattle.aes18.specs.Room.{noRoom}
@@ -33,7 +32,7 @@ use Rattle.aes18.specs.SenderCalls.{
   blockBlock,
   blockAnswer,
 }
-use Rattle.aes18.proofs.Clipping.{offerRefusal-clipped, senderAfterOffer-clipped, storeAfterOffer-clipped}
+use Rattle.aes18.proofs.Clipping.{offerRefusal-clipped, senderAfterOffer-clipped, storeAfterOffer-clipped, BlockCalled-clipped}
 
 -- the number of an answer that a refusal's number gives
 pub number-of : {n k : ℕ} {a : Answer} → k ≡ answerNumber a → a ≡ answerOf n → k ≡ n
@@ -67,6 +66,17 @@ module _ (bytes store : List ℕ) (c p r : ℕ) (message : List ℕ) where
   pub offer-short : length bytes < 46 → Offered 255 bytes store
   unfolding offerNumber offerRecord offerStore noRoom
   offer-short h = rw (lt-ltb (length bytes) 46 h) (refl, refl, refl)
+
+  -- the offer that the code makes, with its numbers clipped
+  pub offer-clipped : {s : Sender} {p′ r′ : ℕ} → s ≡ senderIn bytes → p′ ≡ min p 255 → r′ ≡ min r 255 → {a : Answer} {t : Sender} {l : List ℕ}
+      → (a ≡ answerOf (offerRefusal s store c p′ r′ message)) × (t ≡ senderAfterOffer s store c p′ r′ message) × (l ≡ storeAfterOffer s store c p′ r′ message)
+      → (a ≡ answerOf (offerRefusal (senderIn bytes) store c p r message)) × (t ≡ senderAfterOffer (senderIn bytes) store c p r message)
+      × (l ≡ storeAfterOffer (senderIn bytes) store c p r message)
+  offer-clipped e f g (x, y, z) = (
+    x ∙ rw (e, f, g, offerRefusal-clipped (senderIn bytes) store c p r message),
+    y ∙ rw (e, f, g, senderAfterOffer-clipped (senderIn bytes) store c p r message),
+    z ∙ rw (e, f, g, storeAfterOffer-clipped (senderIn bytes) store c p r message),
+  )
 
   module _ (h : 46 ≤ length bytes) {number : ℕ} {newStore : List ℕ} (e : number ≡ offerRefusal (senderIn bytes) store c p r message)
       (f : newStore ≡ storeAfterOffer (senderIn bytes) store c p r message) where
@@ -102,6 +112,14 @@ made-by n placed used p u = go (eqb n 0) refl
     go : (t : Bool) → eqb n 0 ≡ t → Block p u ≡ cond t (Block placed used) (Refused n) → (n ≡ 0) × (p ≡ placed) × (u ≡ used)
     go true e f = (eqb-true n 0 e, cc, cc)
     go false e f = (cc, cc, cc)
+
+-- the block call that the code makes, with its numbers clipped
+pub block-clipped : (bytes store block : List ℕ) (n u : ℕ) (w : Bool) (enable code : ℕ) (information : List ℕ) {s : Sender} {e c : ℕ}
+    → s ≡ senderIn bytes → e ≡ min enable 255 → c ≡ min code 255 → {newBlock : List ℕ} {m : Making}
+    → BlockCalled s store block n u (system w e c information) newBlock m
+    → BlockCalled (senderIn bytes) store block n u (system w enable code information) newBlock m
+block-clipped bytes store block n u w enable code information f g h b =
+    BlockCalled-clipped (senderIn bytes) store block n u w enable code information (rw (f, g, h) at b)
 
 module _ (bytes store : List ℕ) (n u : ℕ) (y : System) (block answer : List ℕ) where
   -- what a block call answers, and the record, the block and the answer's bytes then

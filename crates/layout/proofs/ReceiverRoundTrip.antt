@@ -15,7 +15,7 @@ use Rattle.receiver.specs.declared.Slot.{Slot}
 use Rattle.receiver.specs.declared.Receiver.{Receiver}
 use Rattle.layout.specs.Layout.{lowBytes, byteAt, wordAt, circuitBytes, circuitAt, circuitsBytes, circuitsIn}
 use Rattle.layout.specs.ReceiverBytes.{receiverLength, slotBytes, slotIn, slotsBytes, framingBytes, framingIn, receiverBytes, receiverIn, isReceiver}
-use Rattle.layout.specs.Fits.{Each, Four, ReceiverSlotFits, FramingFits, ReceiverFits}
+use Rattle.layout.specs.Fits.{Each, Four, ReceiverSlotFits, ReceiverFits}
 use Rattle.layout.proofs.Parts.{byte-fits, word-fits, word-unpacks, word-packs, four-elements, circuits-unpack, circuits-fit, read-slice}
 
 -- ---- a slot's first byte
