@@ -1,0 +1,45 @@
+//! What ends the tool before its work is done.
+
+use std::io;
+use std::process::ExitCode;
+
+/// An error and, by its kind, the exit status.
+#[derive(Debug)]
+pub enum Error {
+    /// The command line is wrong: status 2.
+    Usage(String),
+    /// A refusal or bad data: status 1.
+    Data(String),
+    /// Whoever reads the standard output has closed it: status 0, and nothing to say.
+    Closed,
+}
+
+impl Error {
+    /// An error of reading or writing the file of that name.
+    pub fn file(name: &str, error: &io::Error) -> Error {
+        Error::Data(format!("{name}: {error}"))
+    }
+
+    /// An error of writing the standard output.
+    pub fn stdout(error: &io::Error) -> Error {
+        match error.kind() {
+            io::ErrorKind::BrokenPipe => Error::Closed,
+            _ => Error::file("standard output", error),
+        }
+    }
+
+    /// Says the error on the standard error and answers the exit status.
+    pub fn report(&self) -> ExitCode {
+        match self {
+            Error::Usage(message) => {
+                eprintln!("aes18: {message}\nSee aes18 --help.");
+                ExitCode::from(2)
+            }
+            Error::Data(message) => {
+                eprintln!("aes18: {message}");
+                ExitCode::from(1)
+            }
+            Error::Closed => ExitCode::SUCCESS,
+        }
+    }
+}

@@ -1,0 +1,74 @@
+//! A file or the standard input, read in chunks: the memory used does not grow with its length.
+
+use std::ffi::OsStr;
+use std::fs::File;
+use std::io::{self, Read};
+
+use crate::error::Error;
+
+/// Bytes of a chunk; the last may have fewer.
+const CHUNK: usize = 64 * 1024;
+
+/// What is read, chunk by chunk.
+pub struct Input {
+    name: String,
+    source: Box<dyn Read>,
+    length: Option<u64>,
+    buffer: Vec<u8>,
+}
+
+impl Input {
+    /// Opens a file, or the standard input where the name is `-`.
+    pub fn open(path: &OsStr) -> Result<Input, Error> {
+        if path == "-" {
+            return Ok(Input::of(
+                "standard input".to_string(),
+                Box::new(io::stdin()),
+                None,
+            ));
+        }
+        let name = path.to_string_lossy().into_owned();
+        let file = File::open(path).map_err(|error| Error::file(&name, &error))?;
+        let metadata = file
+            .metadata()
+            .map_err(|error| Error::file(&name, &error))?;
+        if metadata.is_dir() {
+            return Err(Error::Data(format!(
+                "{name}: is a folder; expected a file of user bits"
+            )));
+        }
+        let length = metadata.is_file().then_some(metadata.len());
+        Ok(Input::of(name, Box::new(file), length))
+    }
+
+    fn of(name: String, source: Box<dyn Read>, length: Option<u64>) -> Input {
+        Input {
+            name,
+            source,
+            length,
+            buffer: vec![0; CHUNK],
+        }
+    }
+
+    /// The file's name, for messages.
+    pub fn name(&self) -> &str {
+        &self.name
+    }
+
+    /// The file's length in bytes, where it is known beforehand.
+    pub fn length(&self) -> Option<u64> {
+        self.length
+    }
+
+    /// The next bytes, or none at the end.
+    pub fn chunk(&mut self) -> Result<Option<&[u8]>, Error> {
+        loop {
+            match self.source.read(&mut self.buffer) {
+                Ok(0) => return Ok(None),
+                Ok(count) => return Ok(Some(&self.buffer[..count])),
+                Err(error) if error.kind() == io::ErrorKind::Interrupted => {}
+                Err(error) => return Err(Error::file(&self.name, &error)),
+            }
+        }
+    }
+}

@@ -1,0 +1,93 @@
+//! The tool `aes18`: makes user bits from a plan, and tells what is in filed ones.
+
+mod args;
+mod circuits;
+mod decode;
+mod encode;
+mod error;
+mod input;
+mod output;
+mod show;
+
+use std::env;
+use std::ffi::OsString;
+use std::process::ExitCode;
+
+use args::Args;
+use error::Error;
+
+/// A subcommand: its name, its help and what it does with the arguments behind its name.
+struct Subcommand {
+    name: &'static str,
+    help: &'static str,
+    run: fn(Args) -> Result<(), Error>,
+}
+
+const SUBCOMMANDS: [Subcommand; 3] = [
+    Subcommand {
+        name: "encode",
+        help: encode::HELP,
+        run: encode::run,
+    },
+    Subcommand {
+        name: "decode",
+        help: decode::HELP,
+        run: decode::run,
+    },
+    Subcommand {
+        name: "show",
+        help: show::HELP,
+        run: show::run,
+    },
+];
+
+const HELP: &str = "\
+aes18: messages in the user bits of AES3 audio (AES18)
+
+Usage:
+  aes18 encode PLAN -o BITS                        make the user bits that a plan asks for
+  aes18 decode --circuits ADDR[:EXT],.. BITS       tell what is in filed user bits
+  aes18 show --circuits ADDR[:EXT],.. BITS         look at filed user bits
+  aes18 SUBCOMMAND --help                          say more of a subcommand
+
+Options:
+  -h, --help       print this help
+  -V, --version    print the version
+
+A file of user bits has eight of them in a byte, the first in the lowest bit.
+Exit status: 0; 1 for a refusal or bad data; 2 for wrong usage.
+";
+
+fn main() -> ExitCode {
+    match run(env::args_os().skip(1).collect()) {
+        Ok(()) => ExitCode::SUCCESS,
+        Err(error) => error.report(),
+    }
+}
+
+/// Runs the subcommand that the arguments name.
+fn run(mut arguments: Vec<OsString>) -> Result<(), Error> {
+    if arguments.is_empty() {
+        return Err(Error::Usage(
+            "a subcommand is missing: expected encode, decode or show".to_string(),
+        ));
+    }
+    let name = arguments.remove(0);
+    let name = name.to_string_lossy();
+    match name.as_ref() {
+        "-h" | "--help" => return output::print(HELP),
+        "-V" | "--version" => {
+            return output::print(concat!("aes18 ", env!("CARGO_PKG_VERSION"), "\n"))
+        }
+        _ => {}
+    }
+    let Some(subcommand) = SUBCOMMANDS.iter().find(|known| known.name == name) else {
+        return Err(Error::Usage(format!(
+            "no subcommand '{name}': expected encode, decode or show"
+        )));
+    };
+    if args::ask_for_help(&arguments) {
+        return output::print(subcommand.help);
+    }
+    (subcommand.run)(Args::new(arguments))
+}

@@ -1,0 +1,77 @@
+//! The five functions of the proved static library, as C sees them.
+//!
+//! A slice is a pointer and a length; a pointer whose length is 0 is not read and may be null. Each function answers 0 or a refusal's number, or
+//! 255 where the record or the answer is shorter than it has to be, and then it reads and writes nothing. Any numbers and any bytes may be passed.
+//!
+//! # Safety
+//!
+//! Each pointer must be valid for its length: for reads and writes where it is `*mut`, for reads where it is `*const`. A slice that is written (a
+//! record, the store of an offer or a read, a block, an answer) must overlap no other slice of the call.
+
+extern "C" {
+    /// Lists a sender's circuits, three bytes each, and writes its record.
+    pub fn aes18_sender_list(
+        record: *mut u8,
+        record_len: usize,
+        list: *const u8,
+        list_len: usize,
+    ) -> u32;
+
+    /// Offers a message at a circuit.
+    pub fn aes18_sender_offer(
+        record: *mut u8,
+        record_len: usize,
+        store: *mut u8,
+        store_len: usize,
+        circuit: u64,
+        priority: u64,
+        repetition: u64,
+        message: *const u8,
+        message_len: usize,
+    ) -> u32;
+
+    /// Makes a block of `n` user bits of which `u` may be used. `system` is 0 for no system packet; `enable`, `code` and `info` are then not looked
+    /// at. The answer, 8 bytes: frames placed, bits used, each 4 bytes lowest first.
+    pub fn aes18_sender_block(
+        record: *mut u8,
+        record_len: usize,
+        store: *const u8,
+        store_len: usize,
+        n: u64,
+        u: u64,
+        system: u64,
+        enable: u64,
+        code: u64,
+        info: *const u8,
+        info_len: usize,
+        block: *mut u8,
+        block_len: usize,
+        answer: *mut u8,
+        answer_len: usize,
+    ) -> u32;
+
+    /// Lists a receiver's circuits, three bytes each, and writes its record.
+    pub fn aes18_receiver_list(
+        record: *mut u8,
+        record_len: usize,
+        list: *const u8,
+        list_len: usize,
+    ) -> u32;
+
+    /// Reads bits `from` to `to` up to the first notice. The answer, 16 bytes: byte 0 the notice (0 End, 1 Spoilt, 2 Malformed, 3 System,
+    /// 4 Elsewhere, 5 circuit); byte 1 circuit number or enable bits; byte 2 loss or block code; byte 3 fate (0 Copy, 1 Begun, 2 Held, 3 Whole,
+    /// 4 Orphan, 5 Wrong) or information length; bytes 4 and 5 the length at Whole, lowest first; bytes 8 to 15 the bits read, lowest first; what
+    /// does not apply is 0.
+    pub fn aes18_receiver_read(
+        record: *mut u8,
+        record_len: usize,
+        store: *mut u8,
+        store_len: usize,
+        bits: *const u8,
+        bits_len: usize,
+        from: u64,
+        to: u64,
+        answer: *mut u8,
+        answer_len: usize,
+    ) -> u32;
+}

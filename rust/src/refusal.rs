@@ -1,0 +1,99 @@
+//! The refusals of the calls.
+
+use core::fmt;
+
+/// Why a call was refused. A refused call changes neither the record nor any lent byte.
+#[derive(Clone, Copy, Debug, PartialEq, Eq, Hash)]
+#[repr(u8)]
+pub enum Refusal {
+    /// 1: a list of no circuits or of more than four.
+    ListLength = 1,
+    /// 2: an address FF hex, which belongs to system packets.
+    AddressReserved = 2,
+    /// 3: a circuit's middle byte above 1, or 0 with an extension byte other than 0. A [`Circuit`](crate::Circuit) never has it.
+    ExtensionByte = 3,
+    /// 4: two circuits alike.
+    CircuitsAlike = 4,
+    /// 5: a store shorter than [`SENDER_STORE`](crate::SENDER_STORE) or [`RECEIVER_STORE`](crate::RECEIVER_STORE).
+    StoreTooShort = 5,
+    /// 6: a circuit number that is not listed.
+    CircuitNotListed = 6,
+    /// 7: a priority above 3.
+    PriorityAbove3 = 7,
+    /// 8: a repetition above 5.
+    RepetitionAbove5 = 8,
+    /// 9: a message longer than [`LONGEST_MESSAGE`](crate::LONGEST_MESSAGE).
+    MessageTooLong = 9,
+    /// 10: an earlier message at the circuit still has a copy to place.
+    MessagePending = 10,
+    /// 11: N outside 256 to 27,000 or U outside 256 to N.
+    BlockBits = 11,
+    /// 12: a buffer under N bits.
+    BufferTooShort = 12,
+    /// 13: a system packet with enable bits above 15, a code above 8 or more than 15 bytes of information.
+    SystemPacket = 13,
+    /// 14: a record out of range, which no record made by calls is.
+    RecordOutOfRange = 14,
+    /// 15: from above to, or to past the bytes lent.
+    BitRange = 15,
+}
+
+/// Every refusal with its words, in the order of the numbers from 1.
+const TABLE: [(Refusal, &str); 15] = [
+    (Refusal::ListLength, "length not 3, 6, 9 or 12"),
+    (Refusal::AddressReserved, "an address FF hex"),
+    (
+        Refusal::ExtensionByte,
+        "a middle byte above 1, or 0 with an extension byte other than 0",
+    ),
+    (Refusal::CircuitsAlike, "two circuits alike"),
+    (Refusal::StoreTooShort, "store too short"),
+    (Refusal::CircuitNotListed, "circuit number not listed"),
+    (Refusal::PriorityAbove3, "priority above 3"),
+    (Refusal::RepetitionAbove5, "repetition above 5"),
+    (Refusal::MessageTooLong, "message above 4,094"),
+    (
+        Refusal::MessagePending,
+        "an earlier message there still has a copy to place",
+    ),
+    (
+        Refusal::BlockBits,
+        "N outside 256 to 27,000 or U outside 256 to N",
+    ),
+    (Refusal::BufferTooShort, "buffer under N bits"),
+    (
+        Refusal::SystemPacket,
+        "enable bits above 15, code above 8 or information above 15 bytes",
+    ),
+    (Refusal::RecordOutOfRange, "a record out of range"),
+    (
+        Refusal::BitRange,
+        "from above to, or to past the bytes lent",
+    ),
+];
+
+impl Refusal {
+    /// The specification's number of the refusal, 1 to 15.
+    pub fn number(self) -> u8 {
+        self as u8
+    }
+
+    /// What a call's number says. 255, for a record or an answer too short, is not answered to this library, which gives both in full length.
+    pub(crate) fn answered(number: u32) -> Result<(), Refusal> {
+        match number {
+            0 => Ok(()),
+            1..=15 => Err(TABLE[number as usize - 1].0),
+            _ => unreachable!("a call answers 0 to 15 to a record and an answer of full length"),
+        }
+    }
+}
+
+/// The number and the specification's words, such as `refusal 5: store too short`.
+impl fmt::Display for Refusal {
+    fn fmt(&self, f: &mut fmt::Formatter<'_>) -> fmt::Result {
+        let number = self.number();
+        write!(f, "refusal {number}: {}", TABLE[usize::from(number) - 1].1)
+    }
+}
+
+impl core::error::Error for Refusal {}
