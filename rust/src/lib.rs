@@ -1,8 +1,60 @@
-//! Messages in the user bits of AES3 audio (AES18): the sender and the receiver proved in Rattle, as safe Rust types.
+//! Messages in the user bits of AES3 audio (AES18, ITU-R BS.776), sent and received by functions that are proved in Rattle. This library gives
+//! them as safe Rust types; it has no dependencies, allocates nothing and needs no standard library.
+//!
+//! A [`Sender`] lists up to four circuits, takes messages of up to 4,094 bytes there and makes blocks of user bits. A [`Receiver`] lists circuits
+//! and reads user bits, cut anywhere, up to the next [`Notice`]. Both are plain values. The bytes that they work on are lent in each call: a
+//! store of [`SENDER_STORE`] or [`RECEIVER_STORE`] bytes, the same one at every call of that end, which nobody else writes in between.
+//!
+//! Every call takes any input: it answers its result or a [`Refusal`], and a refused call changes nothing.
+//!
+//! # A pass, sent and read back
+//!
+//! ```
+//! use aes18::{Circuit, Notice, Receiver, Sender, RECEIVER_STORE, SENDER_STORE};
+//!
+//! # fn main() -> Result<(), aes18::Refusal> {
+//! let battery = Circuit { address: 0x01, extension: None };
+//! let switches = Circuit { address: 0x02, extension: Some(0x07) };
+//!
+//! // Two messages: at circuit 0 with priority 1 sent once, at circuit 1 with priority 3 sent twice.
+//! let mut store = [0; SENDER_STORE];
+//! let mut sender = Sender::list(&[battery, switches])?;
+//! sender.offer(&mut store, 0, 1, 0, b"charge 71%, rising at 2 A")?;
+//! sender.offer(&mut store, 1, 3, 1, &[0x0F, 0xF0])?;
+//!
+//! // A block of 800 user bits that may all be used.
+//! let mut bits = [0; 100];
+//! let block = sender.block(&store, 800, 800, None, &mut bits)?;
+//! assert_eq!(block.placed, 4);
+//!
+//! // At the other end: read from notice to notice until End.
+//! let mut store = [0; RECEIVER_STORE];
+//! let mut receiver = Receiver::list(&[battery, switches])?;
+//! let mut messages = Vec::new();
+//! let mut from = 0;
+//! loop {
+//!     let read = receiver.read(&mut store, &bits, from, 800)?;
+//!     from += read.bits;
+//!     if let Some(message) = read.notice.message(&store) {
+//!         messages.push(message.to_vec());
+//!     }
+//!     if read.notice == Notice::End {
+//!         break;
+//!     }
+//! }
+//! assert_eq!(messages, [&[0x0F, 0xF0][..], b"charge 71%, rising at 2 A"]);
+//! # Ok(())
+//! # }
+//! ```
+//!
+//! # Linking
+//!
+//! The build script links the proved static library `libaes18.a`: the one in the folder that the environment variable `AES18_ARCHIVE` names, or
+//! else the one that `rt staticlib aes18` proves and writes in the repository around this package. A relative `AES18_ARCHIVE` starts at this
+//! package's folder.
 
 #![no_std]
 #![deny(unsafe_code)]
-#![deny(unsafe_op_in_unsafe_fn)]
 #![warn(missing_docs)]
 
 #[allow(unsafe_code)]
@@ -20,13 +72,13 @@ pub use receiver::{Read, Receiver};
 pub use refusal::Refusal;
 pub use sender::{Block, Sender, SystemPacket};
 
-/// Bytes of a store's region; each circuit number has one.
+/// Bytes of a store's region. Each circuit number has one, from byte 4,096 times the number.
 pub const REGION: usize = 4096;
-/// Bytes that a sender's store must have.
+/// Bytes that a sender's store must have; what a longer one has behind them is unused.
 pub const SENDER_STORE: usize = 4 * REGION;
 /// The byte of a receiver's store from which a system packet's information stands.
 pub const SYSTEM_PLACE: usize = 4 * REGION;
-/// Bytes that a receiver's store must have.
+/// Bytes that a receiver's store must have; what a longer one has behind them is unused.
 pub const RECEIVER_STORE: usize = SYSTEM_PLACE + 16;
 /// Bytes of the longest message.
 pub const LONGEST_MESSAGE: usize = 4094;

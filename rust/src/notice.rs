@@ -7,9 +7,9 @@ use crate::{REGION, SYSTEM_PLACE};
 pub enum Notice {
     /// All bits are read and there is nothing more to tell.
     End,
-    /// A body of 32 bits or more that does not pass: wrong in its check, its length or its end.
+    /// A body that unstuffs to 32 bits or more and does not pass: its end, its length or its FCS is wrong.
     Spoilt,
-    /// A body that passes and is no packet of the specification.
+    /// A body that passes, and is no packet such as a sender makes.
     Malformed,
     /// A system packet. Its information stands in the store, see [`Notice::information`].
     System {
@@ -22,11 +22,11 @@ pub enum Notice {
     },
     /// A packet of a circuit that is not listed.
     Elsewhere,
-    /// A packet of a listed circuit.
+    /// A packet of the listed circuit of that number.
     Circuit {
         /// The circuit's number.
         number: usize,
-        /// How many packets of the circuit are missing before this one, modulo 8.
+        /// How many packets of the circuit were lost before this one, modulo 8.
         loss: u8,
         /// What became of the packet.
         fate: Fate,
@@ -38,20 +38,48 @@ pub enum Notice {
 pub enum Fate {
     /// A copy of the circuit's last packet.
     Copy,
-    /// It begins a message of several packets.
+    /// It begins a message, and more is due.
     Begun,
-    /// It continues the open message.
+    /// It goes on with the open message, and more is due.
     Held,
     /// It completes a message of this length, which stands in the store, see [`Notice::message`].
     Whole(usize),
-    /// It continues a message of which no beginning is open.
+    /// It goes on with a message, and none is open.
     Orphan,
-    /// Its length does not fit its message's header. An open message is closed.
+    /// It does not fit the length in the message's header, or that header is wrong. The message is closed.
     Wrong,
 }
 
 impl Notice {
-    /// At [`Fate::Whole`] the message, at the start of its region of the receiver's store.
+    /// At [`Fate::Whole`] the message, at the start of its region of the receiver's store; otherwise none.
+    ///
+    /// It is there until a later call writes the region. It is borrowed from the store, so the compiler does not let it be kept over the next read:
+    ///
+    /// ```compile_fail,E0502
+    /// # use aes18::{Circuit, Receiver, RECEIVER_STORE};
+    /// # fn read_two(receiver: &mut Receiver, bits: &[u8], to: u64) -> Result<(), aes18::Refusal> {
+    /// let mut store = [0; RECEIVER_STORE];
+    /// let read = receiver.read(&mut store, bits, 0, to)?;
+    /// let message = read.notice.message(&store);
+    /// receiver.read(&mut store, bits, read.bits, to)?; // error: the store is borrowed by `message`
+    /// println!("{message:?}");
+    /// # Ok(())
+    /// # }
+    /// ```
+    ///
+    /// Copy it, or be done with it before that read:
+    ///
+    /// ```
+    /// # use aes18::{Circuit, Receiver, RECEIVER_STORE};
+    /// # fn read_two(receiver: &mut Receiver, bits: &[u8], to: u64) -> Result<(), aes18::Refusal> {
+    /// let mut store = [0; RECEIVER_STORE];
+    /// let read = receiver.read(&mut store, bits, 0, to)?;
+    /// let message = read.notice.message(&store).map(<[u8]>::to_vec);
+    /// receiver.read(&mut store, bits, read.bits, to)?;
+    /// println!("{message:?}");
+    /// # Ok(())
+    /// # }
+    /// ```
     pub fn message<'a>(&self, store: &'a [u8]) -> Option<&'a [u8]> {
         match *self {
             Notice::Circuit {
@@ -63,7 +91,8 @@ impl Notice {
         }
     }
 
-    /// At [`Notice::System`] the packet's information, in the receiver's store from [`SYSTEM_PLACE`] on.
+    /// At [`Notice::System`] the packet's information, in the receiver's store from [`SYSTEM_PLACE`] on; otherwise none. Like a message it is borrowed
+    /// from the store.
     pub fn information<'a>(&self, store: &'a [u8]) -> Option<&'a [u8]> {
         match *self {
             Notice::System { length, .. } => store.get(SYSTEM_PLACE..)?.get(..length),

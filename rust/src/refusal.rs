@@ -2,11 +2,26 @@
 
 use core::fmt;
 
-/// Why a call was refused. A refused call changes neither the record nor any lent byte.
+/// Why a call was refused. A refused call changes neither the record nor any lent byte. Where several apply, a call gives the first in its own
+/// order, which its documentation says.
+///
+/// ```
+/// use aes18::{Circuit, Refusal, Sender, SENDER_STORE};
+///
+/// let mut store = [0; SENDER_STORE];
+/// let mut sender = Sender::list(&[Circuit { address: 0x01, extension: None }]).unwrap();
+/// let before = sender;
+///
+/// let refusal = sender.offer(&mut store, 1, 0, 0, b"no circuit 1 is listed").unwrap_err();
+/// assert_eq!(refusal, Refusal::CircuitNotListed);
+/// assert_eq!(refusal.number(), 6);
+/// assert_eq!(refusal.to_string(), "refusal 6: circuit number not listed");
+/// assert_eq!(sender, before);
+/// ```
 #[derive(Clone, Copy, Debug, PartialEq, Eq, Hash)]
 #[repr(u8)]
 pub enum Refusal {
-    /// 1: a list of no circuits or of more than four.
+    /// 1: a list whose length is not 3, 6, 9 or 12 bytes: no circuits, or more than four.
     ListLength = 1,
     /// 2: an address FF hex, which belongs to system packets.
     AddressReserved = 2,
@@ -51,7 +66,7 @@ const TABLE: [(Refusal, &str); 15] = [
     (Refusal::CircuitNotListed, "circuit number not listed"),
     (Refusal::PriorityAbove3, "priority above 3"),
     (Refusal::RepetitionAbove5, "repetition above 5"),
-    (Refusal::MessageTooLong, "message above 4,094"),
+    (Refusal::MessageTooLong, "message above 4,094 bytes"),
     (
         Refusal::MessagePending,
         "an earlier message there still has a copy to place",

@@ -4,16 +4,59 @@ use crate::circuit::{Circuit, List};
 use crate::refusal::Refusal;
 use crate::{calls, SENDER_RECORD};
 
-/// A sender: the circuits it lists and what it still has to send.
+/// A sender: the circuits it lists, and what waits to be sent there.
+///
+/// It is a value of 46 bytes; a copy of it is a sender of its own, with a store of its own.
+///
+/// ```
+/// use aes18::{Circuit, Sender, SENDER_STORE};
+///
+/// # fn main() -> Result<(), aes18::Refusal> {
+/// let mut store = [0; SENDER_STORE];
+/// let mut sender = Sender::list(&[Circuit { address: 0x10, extension: None }])?;
+/// sender.offer(&mut store, 0, 2, 0, &[0x55; 40])?;
+///
+/// // A header of 2 bytes and 40 of the message are three packets. The first block has room for one of them.
+/// let mut bits = [0; 32];
+/// assert_eq!(sender.block(&store, 256, 256, None, &mut bits)?.placed, 1);
+/// assert_eq!(sender.waiting(0), 2);
+/// assert_eq!(sender.block(&store, 256, 256, None, &mut bits)?.placed, 1);
+/// assert_eq!(sender.block(&store, 256, 256, None, &mut bits)?.placed, 1);
+/// assert_eq!(sender.waiting(0), 0);
+///
+/// // Nothing waits: the next block holds a flag and ones.
+/// assert_eq!(sender.block(&store, 256, 256, None, &mut bits)?.used, 8);
+/// assert_eq!(bits[..3], [0x7E, 0xFF, 0xFF]);
+/// # Ok(())
+/// # }
+/// ```
 #[derive(Clone, Copy, Debug, PartialEq, Eq)]
 pub struct Sender {
     record: [u8; SENDER_RECORD],
 }
 
 /// A system packet, which a block can carry in front of its other frames.
+///
+/// ```
+/// use aes18::{Circuit, Notice, Receiver, Sender, SystemPacket, RECEIVER_STORE, SENDER_STORE};
+///
+/// # fn main() -> Result<(), aes18::Refusal> {
+/// let circuits = [Circuit { address: 0x01, extension: None }];
+/// let mut sender = Sender::list(&circuits)?;
+/// let system = SystemPacket { enable: 0b1000, code: 2, information: b"eclipse" };
+/// let mut bits = [0; 40];
+/// sender.block(&[0; SENDER_STORE], 320, 320, Some(system), &mut bits)?;
+///
+/// let mut store = [0; RECEIVER_STORE];
+/// let read = Receiver::list(&circuits)?.read(&mut store, &bits, 0, 320)?;
+/// assert_eq!(read.notice, Notice::System { enable: 0b1000, code: 2, length: 7 });
+/// assert_eq!(read.notice.information(&store), Some(&b"eclipse"[..]));
+/// # Ok(())
+/// # }
+/// ```
 #[derive(Clone, Copy, Debug, Default, PartialEq, Eq)]
 pub struct SystemPacket<'a> {
-    /// Which priorities the block may carry: bit 3 for priority 3 down to bit 0 for priority 0.
+    /// Which priorities its block may carry: bit 3 for priority 3 down to bit 0 for priority 0. A block without a system packet enables all.
     pub enable: u64,
     /// The block code, 0 to 8.
     pub code: u64,
@@ -31,14 +74,23 @@ pub struct Block {
 }
 
 impl Sender {
-    /// A fresh sender for one to four circuits, numbered from 0 in their order. Refusals: 1, 2, 4.
+    /// A fresh sender for one to four circuits, numbered from 0 in their order.
+    ///
+    /// # Errors
+    ///
+    /// The first of these refusals that applies: 1, 2, 4.
     pub fn list(circuits: &[Circuit]) -> Result<Sender, Refusal> {
         let mut record = [0; SENDER_RECORD];
         calls::sender_list(&mut record, List::of(circuits).bytes())?;
         Ok(Sender { record })
     }
 
-    /// Takes a message of up to 4,094 bytes to be sent at a circuit. Refusals, the first that applies: 14, 5, 6, 7, 8, 9, 10.
+    /// Takes a message of up to 4,094 bytes, to be sent at the circuit of that number with a priority of 0 to 3, 3 the highest. A repetition of 0
+    /// to 5 gives that many copies of each packet after the original. The message is copied to the start of the circuit's region of the store.
+    ///
+    /// # Errors
+    ///
+    /// The first of these refusals that applies: 14, 5, 6, 7, 8, 9, 10.
     pub fn offer(
         &mut self,
         store: &mut [u8],
@@ -57,7 +109,12 @@ impl Sender {
         )
     }
 
-    /// Writes the next block of `n` user bits, of which `u` may be used. Refusals, the first that applies: 14, 5, 11, 12, 13.
+    /// Writes the next block, of `n` user bits of which `u` may be used, to the start of `block`: a flag, the system packet where one is given,
+    /// frames of what waits, then ones. Bits fill bytes lowest first; spare bits of the last byte are 0, and bytes behind it keep their values.
+    ///
+    /// # Errors
+    ///
+    /// The first of these refusals that applies: 14, 5, 11, 12, 13.
     pub fn block(
         &mut self,
         store: &[u8],
@@ -74,13 +131,35 @@ impl Sender {
         })
     }
 
+    /// How many packets of the circuit's message have a copy still to place; 0 where nothing waits there or the circuit is not listed.
+    pub fn waiting(&self, circuit: usize) -> usize {
+        if circuit >= usize::from(self.record[0]) {
+            return 0;
+        }
+        let mut slots = self.record[SLOTS..].chunks_exact(SLOT);
+        slots.nth(circuit).map_or(0, waiting_in)
+    }
+
     /// The record's bytes. Their layout is no storage format: a later version may have another.
     pub fn as_bytes(&self) -> &[u8; SENDER_RECORD] {
         &self.record
     }
 
-    /// A sender of any bytes. Where no calls leave such a record, each call refuses it by 14.
+    /// The sender of a record's bytes. Any bytes may be given; those out of a record's range every call refuses by 14.
     pub fn from_bytes(record: [u8; SENDER_RECORD]) -> Sender {
         Sender { record }
     }
+}
+
+/// Where the record's four slots begin, one for each circuit number, and a slot's bytes. Its bytes 4 and 5 are the length of the last message,
+/// its bytes 6 and 7 the packets of it of which every copy is placed, lowest byte first.
+const SLOTS: usize = 13;
+const SLOT: usize = 8;
+
+/// The packets of a slot's message that wait: those the message has, less those placed.
+fn waiting_in(slot: &[u8]) -> usize {
+    let length = usize::from(u16::from_le_bytes([slot[4], slot[5]]));
+    let placed = usize::from(u16::from_le_bytes([slot[6], slot[7]]));
+    let header = if length < 16 { 1 } else { 2 };
+    (header + length).div_ceil(16).saturating_sub(placed)
 }

@@ -90,14 +90,10 @@ pub fn unknown_option(option: &str) -> Error {
     Error::Usage(format!("no option '{option}'"))
 }
 
-/// Keeps a subcommand's one operand; a second one is a usage error.
-pub fn keep_operand(kept: &mut Option<OsString>, operand: OsString) -> Result<(), Error> {
-    if kept.is_some() {
-        return Err(Error::Usage(format!(
-            "'{}' is one file too many",
-            operand.to_string_lossy()
-        )));
+/// Keeps what may be given once.
+pub fn keep(kept: &mut Option<OsString>, value: OsString, what: &str) -> Result<(), Error> {
+    match kept.replace(value) {
+        Some(_) => Err(Error::Usage(format!("expected {what} only once"))),
+        None => Ok(()),
     }
-    *kept = Some(operand);
-    Ok(())
 }

@@ -1,13 +1,197 @@
-//! `aes18 decode`.
+//! `aes18 decode`: what is in filed user bits.
 
-use crate::args::Args;
+mod folder;
+mod format;
+mod json;
+mod progress;
+mod text;
+mod totals;
+
+use std::ffi::OsString;
+use std::io::{self, BufWriter, StdoutLock, Write};
+
+use aes18::{Circuit, Notice, Receiver, RECEIVER_STORE};
+
+use crate::args::{self, Arg, Args};
+use crate::circuits;
 use crate::error::Error;
+use crate::input::Input;
+use folder::Folder;
+use format::{Format, Told};
+use json::Json;
+use progress::Progress;
+use text::Text;
+use totals::Totals;
 
-pub const HELP: &str = "\
-Usage: aes18 decode
-";
+pub const HELP: &str = r#"aes18 decode: tell what is in filed user bits
+
+Usage: aes18 decode --circuits ADDR[:EXT],.. [--json] [--messages DIR] BITS
+
+  BITS               the file of user bits, eight in a byte, the first in the
+                     lowest bit, or - for the standard input
+  --circuits LIST    one to four circuits to listen to, such as 01,02:07: address
+                     and extension in hex, divided by commas or spaces
+  --json             one JSON object a line
+  --messages DIR     write each message handed over to a file of its own in DIR,
+                     which is made where it is missing: 000001-01.bin, then
+                     000002-02-07.bin, by order, address and extension; a folder
+                     with such files in it is refused
+  -h, --help         print this help
+
+A line for each notice: how many bits were read when it was told, which is the
+number, from 0, of the first bit behind the closing flag; then
+
+  02:07, loss 0, Whole, length 10: "charge 71%"
+        a packet of a listed circuit; the packets lost before it; what became of it:
+        Copy    it repeats the circuit's last packet
+        Begun   it begins a message, and more is due
+        Held    it goes on with the message, and more is due
+        Whole   it completes the message, which is handed over
+        Orphan  it goes on with a message, and none is open
+        Wrong   it does not fit the message's length
+  System, enable bits 15, code 2, length 6: "sunlit"
+        a system packet with its information
+  Spoilt       a damaged frame
+  Malformed    a frame that is no packet such as a sender makes
+  Elsewhere    a packet of a circuit that is not listed
+
+Messages and information are quoted text with escapes or hex digits, as a plan of
+aes18 encode takes them. At the end stand the totals: for each circuit the packets
+that came, copies not counted; the copies; the packets lost; messages handed over
+and their bytes; orphans; and wrong ones.
+
+With --json a notice has the members bit and notice; System enable and code; a
+circuit's number, circuit, loss and fate; Whole and System also length, hex and,
+if it is printable text, text; and with --messages file. The last object has the
+one member totals.
+
+Exit status: 0; 1 for a refusal or a file that cannot be read; 2 for wrong usage.
+"#;
+
+/// What the command line asks for.
+struct Request {
+    circuits: Vec<Circuit>,
+    json: bool,
+    messages: Option<OsString>,
+    bits: OsString,
+}
 
 /// Runs the subcommand.
-pub fn run(_args: Args) -> Result<(), Error> {
-    Err(Error::Data("decode is not written yet".to_string()))
+pub fn run(args: Args) -> Result<(), Error> {
+    let request = Request::parse(args)?;
+    let receiver = circuits::receiver(&request.circuits)?;
+    let mut input = Input::open(&request.bits)?;
+    let folder = request.messages.as_deref().map(Folder::open).transpose()?;
+    let mut decoder = Decoder {
+        receiver,
+        store: vec![0; RECEIVER_STORE],
+        totals: Totals::new(&request.circuits),
+        circuits: request.circuits,
+        folder,
+        format: if request.json { &Json } else { &Text },
+        out: BufWriter::new(io::stdout().lock()),
+    };
+    let mut progress = Progress::new(input.length());
+    while let Some(bytes) = input.chunk()? {
+        decoder.read(bytes)?;
+        progress.add(bytes.len());
+    }
+    drop(progress);
+    decoder.finish()
+}
+
+impl Request {
+    fn parse(mut args: Args) -> Result<Request, Error> {
+        let mut circuits = None;
+        let mut json = false;
+        let mut messages = None;
+        let mut bits = None;
+        while let Some(arg) = args.next()? {
+            match arg {
+                Arg::Option(name) => match name.as_str() {
+                    "--circuits" => args::keep(
+                        &mut circuits,
+                        args.value("a list of circuits")?,
+                        "--circuits",
+                    )?,
+                    "--messages" => {
+                        args::keep(&mut messages, args.value("a folder")?, "--messages")?
+                    }
+                    "--json" => json = true,
+                    _ => return Err(args::unknown_option(&name)),
+                },
+                Arg::Operand(path) => args::keep(&mut bits, path, "a file of user bits")?,
+            }
+        }
+        let missing = |what: &str| Error::Usage(format!("expected {what}"));
+        let circuits = circuits.ok_or_else(|| missing("--circuits ADDR[:EXT],.."))?;
+        Ok(Request {
+            circuits: circuits::option(&circuits)?,
+            json,
+            messages,
+            bits: bits.ok_or_else(|| missing("a file of user bits"))?,
+        })
+    }
+}
+
+/// A receiver at work, with what it has told so far.
+struct Decoder {
+    receiver: Receiver,
+    store: Vec<u8>,
+    circuits: Vec<Circuit>,
+    totals: Totals,
+    folder: Option<Folder>,
+    format: &'static dyn Format,
+    out: BufWriter<StdoutLock<'static>>,
+}
+
+impl Decoder {
+    /// Reads the next bytes' bits and tells their notices.
+    fn read(&mut self, bytes: &[u8]) -> Result<(), Error> {
+        let first = self.totals.bits;
+        let to = 8 * bytes.len() as u64;
+        let mut from = 0;
+        loop {
+            let read = self
+                .receiver
+                .read(&mut self.store, bytes, from, to)
+                .map_err(|refusal| Error::Data(refusal.to_string()))?;
+            from += read.bits;
+            self.totals.bits = first + from;
+            if read.notice == Notice::End {
+                return self.out.flush().map_err(|error| Error::stdout(&error));
+            }
+            self.tell(read.notice)?;
+        }
+    }
+
+    /// Counts a notice, files its message and tells it.
+    fn tell(&mut self, notice: Notice) -> Result<(), Error> {
+        self.totals.count(&notice);
+        let message = notice.message(&self.store);
+        let file = match (&notice, message, &mut self.folder) {
+            (Notice::Circuit { number, .. }, Some(message), Some(folder)) => {
+                Some(folder.write(self.circuits[*number], message)?)
+            }
+            _ => None,
+        };
+        let told = Told {
+            bit: self.totals.bits,
+            notice,
+            circuits: &self.circuits,
+            bytes: message.or_else(|| notice.information(&self.store)),
+            file: file.as_deref(),
+        };
+        self.format
+            .notice(&mut self.out, &told)
+            .map_err(|error| Error::stdout(&error))
+    }
+
+    /// Tells the totals.
+    fn finish(mut self) -> Result<(), Error> {
+        self.format
+            .totals(&mut self.out, &self.totals)
+            .and_then(|()| self.out.flush())
+            .map_err(|error| Error::stdout(&error))
+    }
 }

@@ -1,7 +1,10 @@
 //! What ends the tool before its work is done.
 
+use std::fmt::Display;
 use std::io;
 use std::process::ExitCode;
+
+use crate::output::say;
 
 /// An error and, by its kind, the exit status.
 #[derive(Debug)]
@@ -10,14 +13,21 @@ pub enum Error {
     Usage(String),
     /// A refusal or bad data: status 1.
     Data(String),
+    /// A refusal or bad data at a line of a text file, which the message begins with: status 1.
+    Line(String),
     /// Whoever reads the standard output has closed it: status 0, and nothing to say.
     Closed,
 }
 
 impl Error {
     /// An error of reading or writing the file of that name.
-    pub fn file(name: &str, error: &io::Error) -> Error {
+    pub fn file(name: impl Display, error: &io::Error) -> Error {
         Error::Data(format!("{name}: {error}"))
+    }
+
+    /// An error at a line of a text file, lines counted from 1.
+    pub fn line(file: &str, line: usize, message: impl Display) -> Error {
+        Error::Line(format!("{file}:{line}: {message}"))
     }
 
     /// An error of writing the standard output.
@@ -32,11 +42,15 @@ impl Error {
     pub fn report(&self) -> ExitCode {
         match self {
             Error::Usage(message) => {
-                eprintln!("aes18: {message}\nSee aes18 --help.");
+                say(&format!("aes18: {message}\nSee aes18 --help."));
                 ExitCode::from(2)
             }
             Error::Data(message) => {
-                eprintln!("aes18: {message}");
+                say(&format!("aes18: {message}"));
+                ExitCode::from(1)
+            }
+            Error::Line(message) => {
+                say(message);
                 ExitCode::from(1)
             }
             Error::Closed => ExitCode::SUCCESS,

@@ -34,7 +34,7 @@ impl Input {
             .map_err(|error| Error::file(&name, &error))?;
         if metadata.is_dir() {
             return Err(Error::Data(format!(
-                "{name}: is a folder; expected a file of user bits"
+                "{name}: expected a file, not a folder"
             )));
         }
         let length = metadata.is_file().then_some(metadata.len());
@@ -70,5 +70,14 @@ impl Input {
                 Err(error) => return Err(Error::file(&self.name, &error)),
             }
         }
+    }
+
+    /// All bytes not yet read.
+    pub fn rest(&mut self) -> Result<Vec<u8>, Error> {
+        let mut bytes = Vec::new();
+        while let Some(chunk) = self.chunk()? {
+            bytes.extend_from_slice(chunk);
+        }
+        Ok(bytes)
     }
 }

@@ -7,6 +7,7 @@ mod encode;
 mod error;
 mod input;
 mod output;
+mod quote;
 mod show;
 
 use std::env;

@@ -1,4 +1,4 @@
-//! The standard output.
+//! The standard output and the standard error.
 
 use std::io::{self, Write};
 
@@ -11,4 +11,9 @@ pub fn print(text: &str) -> Result<(), Error> {
         .write_all(text.as_bytes())
         .and_then(|()| stdout.flush())
         .map_err(|error| Error::stdout(&error))
+}
+
+/// Says a line on the standard error; where that cannot be written there is nobody to tell.
+pub fn say(line: &str) {
+    let _ = writeln!(io::stderr(), "{line}");
 }
