@@ -8,16 +8,24 @@ use std::{env, io};
 fn main() {
     println!("cargo:rerun-if-env-changed=AES18_ARCHIVE");
     let folder = match env::var_os("AES18_ARCHIVE") {
-        Some(folder) => PathBuf::from(folder),
+        Some(folder) => given(PathBuf::from(folder)),
         None => made(&repository()),
     };
-    let archive = folder.join("libaes18.a");
-    if !archive.is_file() {
-        fail(&format!("there is no file {}", archive.display()));
-    }
-    println!("cargo:rerun-if-changed={}", archive.display());
     println!("cargo:rustc-link-search=native={}", folder.display());
     println!("cargo:rustc-link-lib=static=aes18");
+}
+
+/// The folder that AES18_ARCHIVE names, which must hold the archive.
+fn given(folder: PathBuf) -> PathBuf {
+    let archive = folder.join("libaes18.a");
+    println!("cargo:rerun-if-changed={}", archive.display());
+    if !archive.is_file() {
+        fail(&format!(
+            "there is no file {}, which AES18_ARCHIVE asks for",
+            archive.display()
+        ));
+    }
+    folder
 }
 
 /// The repository's root, one folder above this package.

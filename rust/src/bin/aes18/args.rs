@@ -90,10 +90,13 @@ pub fn unknown_option(option: &str) -> Error {
     Error::Usage(format!("no option '{option}'"))
 }
 
-/// Keeps what may be given once.
-pub fn keep(kept: &mut Option<OsString>, value: OsString, what: &str) -> Result<(), Error> {
-    match kept.replace(value) {
-        Some(_) => Err(Error::Usage(format!("expected {what} only once"))),
+/// Keeps a subcommand's one operand; a second one is a usage error.
+pub fn keep_operand(kept: &mut Option<OsString>, operand: OsString) -> Result<(), Error> {
+    match kept.replace(operand) {
         None => Ok(()),
+        Some(first) => Err(Error::Usage(format!(
+            "expected no other file beside '{}'",
+            first.to_string_lossy()
+        ))),
     }
 }

@@ -65,6 +65,8 @@ circuit's number, circuit, loss and fate; Whole and System also length, hex and,
 if it is printable text, text; and with --messages file. The last object has the
 one member totals.
 
+Where the standard error is a terminal and the standard output is not, a bar shows
+how far a long reading has come.
 Exit status: 0; 1 for a refusal or a file that cannot be read; 2 for wrong usage.
 "#;
 
@@ -109,27 +111,21 @@ impl Request {
         while let Some(arg) = args.next()? {
             match arg {
                 Arg::Option(name) => match name.as_str() {
-                    "--circuits" => args::keep(
-                        &mut circuits,
-                        args.value("a list of circuits")?,
-                        "--circuits",
-                    )?,
-                    "--messages" => {
-                        args::keep(&mut messages, args.value("a folder")?, "--messages")?
-                    }
+                    "--circuits" => circuits = Some(args.value("a list of circuits")?),
+                    "--messages" => messages = Some(args.value("a folder")?),
                     "--json" => json = true,
                     _ => return Err(args::unknown_option(&name)),
                 },
-                Arg::Operand(path) => args::keep(&mut bits, path, "a file of user bits")?,
+                Arg::Operand(path) => args::keep_operand(&mut bits, path)?,
             }
         }
-        let missing = |what: &str| Error::Usage(format!("expected {what}"));
-        let circuits = circuits.ok_or_else(|| missing("--circuits ADDR[:EXT],.."))?;
+        let expected = |what: &str| Error::Usage(format!("expected {what}"));
+        let circuits = circuits.ok_or_else(|| expected("--circuits ADDR[:EXT],.."))?;
         Ok(Request {
             circuits: circuits::option(&circuits)?,
             json,
             messages,
-            bits: bits.ok_or_else(|| missing("a file of user bits"))?,
+            bits: bits.ok_or_else(|| expected("a file of user bits"))?,
         })
     }
 }

@@ -1,23 +1,23 @@
 //! `aes18 encode`: the user bits that a plan asks for.
 
 mod join;
-mod output;
 mod plan;
 mod sending;
+mod summary;
 mod words;
 
 use std::ffi::OsString;
 use std::fs;
-
-use aes18::Sender;
+use std::io::Write;
 
 use crate::args::{self, Arg, Args};
+use crate::draft::Draft;
 use crate::error::Error;
 use crate::output::say;
 use join::Join;
-use output::Output;
 use plan::Plan;
-use sending::{send, Made};
+use sending::send;
+use summary::Summary;
 
 pub const HELP: &str = r#"aes18 encode: make the user bits that a plan asks for
 
@@ -62,12 +62,15 @@ struct Request {
     bits: OsString,
 }
 
-/// Runs the subcommand. The plan's calls are made once without writing anything, so that a refused one leaves no output.
+/// Runs the subcommand.
 pub fn run(args: Args) -> Result<(), Error> {
     let request = Request::parse(args)?;
     let plan = Plan::read(&request.plan)?;
-    send(&plan, |_| Ok(()))?;
-    write(&plan, Output::create(&request.bits)?)
+    let mut draft = Draft::new(&request.bits)?;
+    let summary = write(&plan, &mut draft)?;
+    draft.finish()?;
+    say(&summary);
+    Ok(())
 }
 
 impl Request {
@@ -76,73 +79,37 @@ impl Request {
         let mut bits = None;
         while let Some(arg) = args.next()? {
             match arg {
-                Arg::Option(name) if name == "-o" || name == "--output" => {
-                    args::keep(&mut bits, args.value("a file of user bits")?, "-o")?
-                }
-                Arg::Option(name) => return Err(args::unknown_option(&name)),
-                Arg::Operand(path) => args::keep(&mut plan, path, "a plan")?,
+                Arg::Option(name) => match name.as_str() {
+                    "-o" | "--output" => bits = Some(args.value("a file of user bits")?),
+                    _ => return Err(args::unknown_option(&name)),
+                },
+                Arg::Operand(path) => args::keep_operand(&mut plan, path)?,
             }
         }
-        let plan = plan.ok_or_else(|| Error::Usage("expected a plan".to_string()))?;
-        let bits = bits.ok_or_else(|| Error::Usage("expected -o BITS".to_string()))?;
+        let expected = |what: &str| Error::Usage(format!("expected {what}"));
+        let plan = plan.ok_or_else(|| expected("a plan"))?;
+        let bits = bits.ok_or_else(|| expected("-o BITS"))?;
         match (fs::canonicalize(&plan), fs::canonicalize(&bits)) {
-            (Ok(plan), Ok(bits)) if plan == bits && plan.is_file() => Err(Error::Usage(
-                "expected another file for BITS than the plan".to_string(),
-            )),
+            (Ok(from), Ok(to)) if from == to => Err(expected("another file for BITS than PLAN")),
             _ => Ok(Request { plan, bits }),
         }
     }
 }
 
-/// Writes the joined bits of the plan's blocks and tells what was made.
-fn write(plan: &Plan, mut output: Output) -> Result<(), Error> {
+/// Writes the joined bits of the plan's blocks and answers what there is to tell of them.
+fn write(plan: &Plan, draft: &mut Draft) -> Result<String, Error> {
     let mut join = Join::default();
-    let mut blocks = 0;
-    let mut bits = 0;
+    let mut summary = Summary::default();
     let sender = send(plan, |made| {
-        blocks += 1;
-        bits += made.n;
-        output.write(&join.put(made.bytes, made.n))?;
-        tell_block(plan, blocks, &made);
-        Ok(())
+        summary.block(plan, &made);
+        let joined = join.put(made.bytes, made.n);
+        draft
+            .write_all(&joined)
+            .map_err(|error| draft.error(&error))
     })?;
-    output.write(join.end().as_slice())?;
-    output.finish()?;
-    say(&format!(
-        "{}, {}",
-        count(blocks, "block"),
-        count(bits, "bit")
-    ));
-    tell_waiting(plan, &sender);
-    Ok(())
-}
-
-fn tell_block(plan: &Plan, number: u64, made: &Made<'_>) {
-    say(&format!(
-        "{}:{}: block {number}: {} placed, {} of {} bits used",
-        plan.name,
-        made.line,
-        count(made.block.placed.into(), "frame"),
-        made.block.used,
-        made.n,
-    ));
-}
-
-/// Warns of each circuit whose message is not placed in full.
-fn tell_waiting(plan: &Plan, sender: &Sender) {
-    for (number, circuit) in plan.circuits.iter().enumerate() {
-        let waiting = sender.waiting(number);
-        if waiting > 0 {
-            say(&format!(
-                "warning: circuit {number} ({circuit}): {} still to place; the plan needs a later block",
-                count(waiting as u64, "packet"),
-            ));
-        }
-    }
-}
-
-/// A number with what it counts: `1 block`, `2 blocks`.
-fn count(number: u64, what: &str) -> String {
-    let plural = if number == 1 { "" } else { "s" };
-    format!("{number} {what}{plural}")
+    let end = join.end();
+    draft
+        .write_all(end.as_slice())
+        .map_err(|error| draft.error(&error))?;
+    Ok(summary.end(plan, &sender))
 }

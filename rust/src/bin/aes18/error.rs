@@ -38,11 +38,19 @@ impl Error {
         }
     }
 
+    /// A usage error with the command whose help says more.
+    pub fn see_help_of(self, command: &str) -> Error {
+        match self {
+            Error::Usage(message) => Error::Usage(format!("{message}\nSee {command} --help.")),
+            other => other,
+        }
+    }
+
     /// Says the error on the standard error and answers the exit status.
     pub fn report(&self) -> ExitCode {
         match self {
             Error::Usage(message) => {
-                say(&format!("aes18: {message}\nSee aes18 --help."));
+                say(&format!("aes18: {message}"));
                 ExitCode::from(2)
             }
             Error::Data(message) => {

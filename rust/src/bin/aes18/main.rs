@@ -1,8 +1,11 @@
 //! The tool `aes18`: makes user bits from a plan, and tells what is in filed ones.
 
+#![forbid(unsafe_code)]
+
 mod args;
 mod circuits;
 mod decode;
+mod draft;
 mod encode;
 mod error;
 mod input;
@@ -59,6 +62,8 @@ A file of user bits has eight of them in a byte, the first in the lowest bit.
 Exit status: 0; 1 for a refusal or bad data; 2 for wrong usage.
 ";
 
+const VERSION: &str = concat!("aes18 ", env!("CARGO_PKG_VERSION"), "\n");
+
 fn main() -> ExitCode {
     match run(env::args_os().skip(1).collect()) {
         Ok(()) => ExitCode::SUCCESS,
@@ -68,27 +73,23 @@ fn main() -> ExitCode {
 
 /// Runs the subcommand that the arguments name.
 fn run(mut arguments: Vec<OsString>) -> Result<(), Error> {
+    let expected = |found: &str| {
+        Error::Usage(format!("expected encode, decode or show{found}")).see_help_of("aes18")
+    };
     if arguments.is_empty() {
-        return Err(Error::Usage(
-            "a subcommand is missing: expected encode, decode or show".to_string(),
-        ));
+        return Err(expected(""));
     }
     let name = arguments.remove(0);
     let name = name.to_string_lossy();
     match name.as_ref() {
         "-h" | "--help" => return output::print(HELP),
-        "-V" | "--version" => {
-            return output::print(concat!("aes18 ", env!("CARGO_PKG_VERSION"), "\n"))
-        }
+        "-V" | "--version" => return output::print(VERSION),
         _ => {}
     }
-    let Some(subcommand) = SUBCOMMANDS.iter().find(|known| known.name == name) else {
-        return Err(Error::Usage(format!(
-            "no subcommand '{name}': expected encode, decode or show"
-        )));
-    };
-    if args::ask_for_help(&arguments) {
-        return output::print(subcommand.help);
+    match SUBCOMMANDS.iter().find(|known| known.name == name) {
+        Some(subcommand) if args::ask_for_help(&arguments) => output::print(subcommand.help),
+        Some(subcommand) => (subcommand.run)(Args::new(arguments))
+            .map_err(|error| error.see_help_of(&format!("aes18 {name}"))),
+        None => Err(expected(&format!(", not '{name}'"))),
     }
-    (subcommand.run)(Args::new(arguments))
 }

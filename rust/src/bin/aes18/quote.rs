@@ -41,7 +41,12 @@ pub struct Hex<'a>(pub &'a [u8]);
 
 impl Display for Hex<'_> {
     fn fmt(&self, f: &mut Formatter<'_>) -> fmt::Result {
-        self.0.iter().try_for_each(|byte| write!(f, "{byte:02X}"))
+        let digit = |value: u8| char::from(b"0123456789ABCDEF"[usize::from(value)]);
+        let pairs = self
+            .0
+            .iter()
+            .map(|byte| [digit(byte >> 4), digit(byte & 15)]);
+        f.write_str(&pairs.flatten().collect::<String>())
     }
 }
 

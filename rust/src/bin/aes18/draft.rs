@@ -1,0 +1,135 @@
+//! A file that appears only when it is complete.
+
+use std::ffi::{OsStr, OsString};
+use std::fs::{self, File};
+use std::io::{self, BufWriter, Seek, SeekFrom, Write};
+use std::path::{Path, PathBuf};
+use std::{env, process};
+
+use crate::error::Error;
+
+/// A file under a name of its own until it is finished. What stood in its place stays until then, and a draft that is dropped is gone.
+pub struct Draft {
+    path: PathBuf,
+    file: BufWriter<File>,
+    target: Target,
+    /// The target's name, for messages.
+    name: String,
+}
+
+/// Where the bytes go in the end.
+enum Target {
+    /// The standard output, which gets a copy.
+    Stdout,
+    /// A device or a pipe, which gets a copy.
+    Stream(PathBuf),
+    /// A file, which is replaced by the draft.
+    File(PathBuf),
+}
+
+impl Draft {
+    /// Begins a draft of the file of that name, or of the standard output where the name is `-`.
+    pub fn new(name: &OsStr) -> Result<Draft, Error> {
+        let target = Target::named(name)?;
+        let name = name.to_string_lossy().into_owned();
+        let path = match &target {
+            Target::File(path) => beside(path),
+            Target::Stdout | Target::Stream(_) => temporary(),
+        };
+        let file = File::options()
+            .read(true)
+            .write(true)
+            .create_new(true)
+            .open(&path)
+            .map_err(|error| Error::file(&name, &error))?;
+        Ok(Draft {
+            path,
+            file: BufWriter::new(file),
+            target,
+            name,
+        })
+    }
+
+    /// Puts the file in its place.
+    pub fn finish(mut self) -> Result<(), Error> {
+        self.file.flush().map_err(|error| self.error(&error))?;
+        match &self.target {
+            Target::Stdout => {
+                let copied = self.copy(&mut io::stdout().lock());
+                copied.map_err(|error| Error::stdout(&error))
+            }
+            Target::Stream(path) => {
+                let opened = File::options().write(true).open(path);
+                let copied = opened.and_then(|mut stream| self.copy(&mut stream));
+                copied.map_err(|error| self.error(&error))
+            }
+            Target::File(path) => fs::rename(&self.path, path).map_err(|error| self.error(&error)),
+        }
+    }
+
+    /// Copies the file's bytes.
+    fn copy(&self, stream: &mut dyn Write) -> io::Result<()> {
+        let mut file = self.file.get_ref();
+        file.rewind()?;
+        io::copy(&mut file, stream)?;
+        stream.flush()
+    }
+
+    /// An error of writing the draft.
+    pub fn error(&self, error: &io::Error) -> Error {
+        Error::file(&self.name, error)
+    }
+}
+
+impl Target {
+    /// What a name on the command line stands for. A link stands for the file that it leads to.
+    fn named(name: &OsStr) -> Result<Target, Error> {
+        if name == "-" {
+            return Ok(Target::Stdout);
+        }
+        let path = PathBuf::from(name);
+        let expected = |what: &str| Error::Data(format!("{}: expected {what}", path.display()));
+        match fs::metadata(&path) {
+            Ok(found) if found.is_dir() => Err(expected("a file, not a folder")),
+            Ok(found) if !found.is_file() => Ok(Target::Stream(path)),
+            _ if path.file_name().is_none() => Err(expected("a file's name")),
+            _ => Ok(Target::File(fs::canonicalize(&path).unwrap_or(path))),
+        }
+    }
+}
+
+/// A name in the same folder.
+fn beside(path: &Path) -> PathBuf {
+    let mut name = OsString::from(".");
+    name.push(path.file_name().unwrap_or_default());
+    name.push(format!(".{}", process::id()));
+    path.with_file_name(name)
+}
+
+/// A name in the folder for temporary files.
+fn temporary() -> PathBuf {
+    env::temp_dir().join(format!("aes18.{}", process::id()))
+}
+
+impl Write for Draft {
+    fn write(&mut self, bytes: &[u8]) -> io::Result<usize> {
+        self.file.write(bytes)
+    }
+
+    fn flush(&mut self) -> io::Result<()> {
+        self.file.flush()
+    }
+}
+
+impl Seek for Draft {
+    fn seek(&mut self, position: SeekFrom) -> io::Result<u64> {
+        self.file.seek(position)
+    }
+}
+
+/// A finished file has left the draft's name already.
+impl Drop for Draft {
+    fn drop(&mut self) {
+        let _ = fs::remove_file(&self.path);
+    }
+}

@@ -1,0 +1,288 @@
+//! `aes18 decode`: notices, messages and totals.
+
+use std::io::Read;
+use std::process::Stdio;
+
+use super::encode::PLAN;
+use super::json::{self, Value};
+use super::runs::{names, Folder};
+
+/// What the bits of the plan hold.
+const NOTICES: &str = "\
+bit 200: 7E, loss 0, Begun
+bit 392: 7E, loss 0, Copy
+bit 584: 7E, loss 0, Copy
+bit 681: System, enable bits 5, code 8, length 3: 010203
+bit 1306: 7E, loss 0, Whole, length 20: FFFFFFFFFFFFFFFFFFFFFFFFFFFFFFFFFFFFFFFF
+bit 1404: 7E, loss 0, Copy
+bit 1502: 7E, loss 0, Copy
+bit 1630: 01, loss 0, Whole, length 10: \"charge 71%\"
+";
+const TOTALS: &str = "
+circuit    packets    copies      lost  messages     bytes   orphans     wrong
+01               1         0         0         1        10         0         0
+02:07            0         0         0         0         0         0         0
+7E               2         4         0         1        20         0         0
+bits read 1808; System 1, Spoilt 0, Malformed 0, Elsewhere 0
+";
+
+/// A folder with the bits of the plan.
+fn folder(name: &str) -> Folder {
+    let folder = Folder::new(name);
+    folder.write("plan", PLAN);
+    assert_eq!(folder.run(&["encode", "plan", "-o", "bits"]).status, 0);
+    folder
+}
+
+#[test]
+fn notices_and_totals() {
+    let folder = folder("decode");
+    let told = folder
+        .run(&["decode", "--circuits", "01,02:07,7E", "bits"])
+        .told();
+    assert_eq!(told, format!("{NOTICES}{TOTALS}"));
+}
+
+#[test]
+fn standard_input() {
+    let folder = folder("stdin");
+    let bits = folder.read("bits");
+    let ran = folder.run_with(&["decode", "-", "--circuits=1 2:7 7e"], &bits);
+    assert_eq!(ran.told(), format!("{NOTICES}{TOTALS}"));
+}
+
+#[test]
+fn circuits_not_listed() {
+    let folder = folder("elsewhere");
+    let told = folder
+        .run(&["decode", "--circuits", "01:00", "bits"])
+        .told();
+    assert_eq!(told.matches(": Elsewhere\n").count(), 7);
+    assert!(told.ends_with("Malformed 0, Elsewhere 7\n"), "{told}");
+}
+
+/// A torn bit spoils a frame, and what was lost with it is told.
+#[test]
+fn torn_bits() {
+    let folder = Folder::new("torn");
+    let plan = "circuits 01\noffer 0 0 0 @message\nblock 2000 2000\n";
+    folder.write("message", [b'a'; 40]);
+    folder.write("plan", plan);
+    folder.run(&["encode", "plan", "-o", "bits"]);
+    let mut bits = folder.read("bits");
+    bits[30] ^= 1;
+    folder.write("bits", &bits);
+    let told = folder.run(&["decode", "--circuits", "01", "bits"]).told();
+    let expected = "\
+bit 177: 01, loss 0, Begun
+bit 345: Spoilt
+bit 465: 01, loss 1, Orphan
+
+circuit    packets    copies      lost  messages     bytes   orphans     wrong
+01               2         0         1         0         0         1         0
+bits read 2000; System 0, Spoilt 1, Malformed 0, Elsewhere 0
+";
+    assert_eq!(told, expected);
+}
+
+/// Any bytes are read, and no bytes too.
+#[test]
+fn any_bytes() {
+    let folder = Folder::new("any");
+    let noise: Vec<u8> = (0..200_000u32)
+        .map(|i| (i.wrapping_mul(i).wrapping_mul(0x9E37_79B1) >> 13) as u8)
+        .collect();
+    folder.write("noise", &noise);
+    folder.write("empty", "");
+    let told = folder.run(&["decode", "--circuits", "01", "noise"]).told();
+    assert!(told.contains("\nbits read 1600000; "), "{told}");
+    let told = folder.run(&["decode", "--circuits", "01", "empty"]).told();
+    assert!(told.ends_with("\nbits read 0; System 0, Spoilt 0, Malformed 0, Elsewhere 0\n"));
+}
+
+#[test]
+fn json_lines() {
+    let folder = folder("json");
+    let told = folder
+        .run(&["decode", "--json", "--circuits", "01,02:07,7E", "bits"])
+        .told();
+    let values: Vec<Value> = told.lines().map(json::parse).collect();
+    assert_eq!(values.len(), 9);
+    let expected = [
+        (
+            0,
+            r#"{"bit":200,"notice":"Circuit","number":2,"circuit":"7E","loss":0,"fate":"Begun"}"#,
+        ),
+        (
+            3,
+            r#"{"bit":681,"notice":"System","enable":5,"code":8,"length":3,"hex":"010203"}"#,
+        ),
+        (
+            7,
+            r#"{"bit":1630,"notice":"Circuit","number":0,"circuit":"01","loss":0,"fate":"Whole","length":10,"hex":"63686172676520373125","text":"charge 71%"}"#,
+        ),
+        (
+            8,
+            r#"{"totals":{"bits":1808,"system":1,"spoilt":0,"malformed":0,"elsewhere":0,"circuits":[{"number":0,"circuit":"01","packets":1,"copies":0,"lost":0,"messages":1,"bytes":10,"orphans":0,"wrong":0},{"number":1,"circuit":"02:07","packets":0,"copies":0,"lost":0,"messages":0,"bytes":0,"orphans":0,"wrong":0},{"number":2,"circuit":"7E","packets":2,"copies":4,"lost":0,"messages":1,"bytes":20,"orphans":0,"wrong":0}]}}"#,
+        ),
+    ];
+    for (line, object) in expected {
+        assert_eq!(values[line], json::parse(object));
+    }
+}
+
+/// Text with every character that JSON escapes, and bytes that are no text.
+#[test]
+fn json_strings() {
+    let folder = Folder::new("strings");
+    let text = "\"\\\n\r\t/\u{b0}";
+    folder.write("text", text);
+    folder.write("bytes", b"\x00\xFF");
+    folder.write(
+        "plan",
+        "circuits 01 02\noffer 0 1 0 @text\noffer 1 0 0 @bytes\nblock 800 800\n",
+    );
+    folder.run(&["encode", "plan", "-o", "bits"]);
+    let told = folder
+        .run(&["decode", "--json", "--circuits=01,02", "bits"])
+        .told();
+    let lines: Vec<Value> = told.lines().map(json::parse).collect();
+    let Value::Object(first) = &lines[0] else {
+        panic!("{told}");
+    };
+    assert_eq!(
+        first.last(),
+        Some(&("text".to_string(), Value::Text(text.to_string())))
+    );
+    let Value::Object(second) = &lines[1] else {
+        panic!("{told}");
+    };
+    assert_eq!(
+        second.last(),
+        Some(&("hex".to_string(), Value::Text("00FF".to_string())))
+    );
+}
+
+#[test]
+fn messages_to_files() {
+    let folder = folder("messages");
+    let arguments = [
+        "decode",
+        "--circuits",
+        "01,02:07,7E",
+        "--messages",
+        "a/b",
+        "bits",
+    ];
+    let told = folder.run(&arguments).told();
+    assert!(
+        told.contains("length 10: \"charge 71%\", file 000002-01.bin\n"),
+        "{told}"
+    );
+    assert_eq!(
+        names(&folder.path("a/b")),
+        ["000001-7E.bin", "000002-01.bin"]
+    );
+    assert_eq!(folder.read("a/b/000001-7E.bin"), [0xFF; 20]);
+    assert_eq!(folder.read("a/b/000002-01.bin"), b"charge 71%");
+
+    let json = [&arguments[..], &["--json"]].concat();
+    let message = "aes18: a/b: expected a folder without messages; 0000";
+    for arguments in [&arguments[..], &json] {
+        let ran = folder.run(arguments);
+        assert_eq!((ran.status, ran.out), (1, Vec::new()));
+        assert!(ran.err.starts_with(message), "{}", ran.err);
+    }
+    assert_eq!(names(&folder.path("a/b")).len(), 2);
+}
+
+/// A folder with other files in it is taken as it is.
+#[test]
+fn messages_beside_other_files() {
+    let folder = folder("beside");
+    let told = folder
+        .run(&["decode", "--json", "--circuits=01", "--messages=.", "bits"])
+        .told();
+    assert!(
+        told.contains(r#""text":"charge 71%","file":"000001-01.bin"}"#),
+        "{told}"
+    );
+    assert_eq!(folder.names(), ["000001-01.bin", "bits", "plan"]);
+}
+
+/// Nothing is written where something is wrong.
+#[test]
+fn refusals_and_bad_files() {
+    let folder = folder("refused");
+    let none = "No such file or directory (os error 2)";
+    let cases: [(&[&str], String); 6] = [
+        (
+            &["--circuits=01,01", "bits"],
+            "--circuits: refusal 4: two circuits alike".to_string(),
+        ),
+        (
+            &["--circuits=ff", "bits"],
+            "--circuits: refusal 2: an address FF hex".to_string(),
+        ),
+        (
+            &["--circuits=1,2,3,4,5", "bits"],
+            "--circuits: refusal 1: length not 3, 6, 9 or 12".to_string(),
+        ),
+        (&["--circuits=01", "none"], format!("none: {none}")),
+        (
+            &["--circuits=01", "."],
+            ".: expected a file, not a folder".to_string(),
+        ),
+        (
+            &["--circuits=01", "--messages=bits", "bits"],
+            "bits: Not a directory (os error 20)".to_string(),
+        ),
+    ];
+    for (arguments, message) in cases {
+        let arguments = [&["decode", "--messages=new"], arguments].concat();
+        folder
+            .run(&arguments)
+            .failed(1, &format!("aes18: {message}\n"));
+    }
+    assert_eq!(folder.names(), ["bits", "plan"]);
+}
+
+/// A reader that closes the pipe, such as `head`, ends the program quietly.
+#[test]
+fn a_closed_pipe() {
+    let folder = Folder::new("closed");
+    folder.write(
+        "plan",
+        format!(
+            "circuits 01\n{}",
+            "offer 0 0 0 \"again\"\nblock 256 256\n".repeat(20_000)
+        ),
+    );
+    assert_eq!(folder.run(&["encode", "plan", "-o", "bits"]).status, 0);
+    let mut command = folder.command(&["decode", "--circuits", "01", "bits"]);
+    let mut child = command
+        .stdout(Stdio::piped())
+        .stderr(Stdio::piped())
+        .spawn()
+        .unwrap();
+    let mut start = [0; 40];
+    child.stdout.take().unwrap().read_exact(&mut start).unwrap();
+    let output = child.wait_with_output().unwrap();
+    assert!(start.starts_with(b"bit "));
+    assert_eq!((output.status.code(), output.stderr), (Some(0), Vec::new()));
+}
+
+#[cfg(target_os = "linux")]
+#[test]
+fn a_full_device() {
+    let folder = folder("full");
+    let full = std::fs::File::options()
+        .write(true)
+        .open("/dev/full")
+        .unwrap();
+    let mut command = folder.command(&["decode", "--circuits", "01", "bits"]);
+    let output = command.stdout(full).output().unwrap();
+    let message = "aes18: standard output: No space left on device (os error 28)\n";
+    assert_eq!(output.status.code(), Some(1));
+    assert_eq!(String::from_utf8_lossy(&output.stderr), message);
+}
