@@ -40,11 +40,19 @@ fn made(root: &Path) -> PathBuf {
     for part in ["crates", "crates.txt"] {
         println!("cargo:rerun-if-changed={}", root.join(part).display());
     }
-    match Command::new("rt").args(["staticlib", "aes18"]).current_dir(root).status() {
+    let mut command = Command::new("rt");
+    match command
+        .args(["staticlib", "aes18"])
+        .current_dir(root)
+        .status()
+    {
         Ok(status) if status.success() => root.join("target").join("staticlib"),
-        Ok(status) => fail(&format!("'rt staticlib aes18' in {} ended with {status}", root.display())),
+        Ok(status) => fail(&format!(
+            "the command 'rt staticlib aes18' ended with {status}"
+        )),
         Err(error) if error.kind() == io::ErrorKind::NotFound => fail(
-            "the command 'rt' of the Rattle toolchain is not on the PATH; install it, or set AES18_ARCHIVE to the folder of a libaes18.a already made",
+            "the command 'rt' of the Rattle toolchain is not on the PATH; \
+             install it, or set AES18_ARCHIVE to the folder of a libaes18.a already made",
         ),
         Err(error) => fail(&format!("the command 'rt' cannot be run: {error}")),
     }

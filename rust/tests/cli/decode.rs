@@ -247,20 +247,13 @@ fn refusals_and_bad_files() {
     assert_eq!(folder.names(), ["bits", "plan"]);
 }
 
-/// A reader that closes the pipe, such as `head`, ends the program quietly.
-#[test]
-fn a_closed_pipe() {
-    let folder = Folder::new("closed");
-    folder.write(
-        "plan",
-        format!(
-            "circuits 01\n{}",
-            "offer 0 0 0 \"again\"\nblock 256 256\n".repeat(20_000)
-        ),
-    );
+/// Runs a decoding of 20,000 messages whose output is closed after its start: it ends quietly.
+fn close_early(folder: &Folder, options: &[&str]) {
+    let again = "offer 0 0 0 \"again\"\nblock 256 256\n".repeat(20_000);
+    folder.write("plan", format!("circuits 01\n{again}"));
     assert_eq!(folder.run(&["encode", "plan", "-o", "bits"]).status, 0);
-    let mut command = folder.command(&["decode", "--circuits", "01", "bits"]);
-    let mut child = command
+    let mut child = folder
+        .command(&[&["decode", "--circuits=01", "bits"], options].concat())
         .stdout(Stdio::piped())
         .stderr(Stdio::piped())
         .spawn()
@@ -270,6 +263,20 @@ fn a_closed_pipe() {
     let output = child.wait_with_output().unwrap();
     assert!(start.starts_with(b"bit "));
     assert_eq!((output.status.code(), output.stderr), (Some(0), Vec::new()));
+}
+
+/// A reader such as `head` closes the pipe.
+#[test]
+fn a_closed_pipe() {
+    close_early(&Folder::new("closed"), &[]);
+}
+
+/// The messages are all written to files still.
+#[test]
+fn a_closed_pipe_with_messages() {
+    let folder = Folder::new("closed-messages");
+    close_early(&folder, &["--messages=out"]);
+    assert_eq!(names(&folder.path("out")).len(), 20_000);
 }
 
 #[cfg(target_os = "linux")]

@@ -8,7 +8,7 @@ mod text;
 mod totals;
 
 use std::ffi::OsString;
-use std::io::{self, BufWriter, StdoutLock, Write};
+use std::io::{self, BufWriter, Write};
 
 use aes18::{Circuit, Notice, Receiver, RECEIVER_STORE};
 
@@ -16,6 +16,7 @@ use crate::args::{self, Arg, Args};
 use crate::circuits;
 use crate::error::Error;
 use crate::input::Input;
+use crate::output::Unread;
 use folder::Folder;
 use format::{Format, Told};
 use json::Json;
@@ -78,12 +79,16 @@ struct Request {
     bits: OsString,
 }
 
-/// Runs the subcommand.
+/// Runs the subcommand. Where messages are written to files, a standard output that is closed does not end the reading.
 pub fn run(args: Args) -> Result<(), Error> {
     let request = Request::parse(args)?;
     let receiver = circuits::receiver(&request.circuits)?;
     let mut input = Input::open(&request.bits)?;
     let folder = request.messages.as_deref().map(Folder::open).transpose()?;
+    let stdout: Box<dyn Write> = match folder {
+        Some(_) => Box::new(Unread(io::stdout().lock())),
+        None => Box::new(io::stdout().lock()),
+    };
     let mut decoder = Decoder {
         receiver,
         store: vec![0; RECEIVER_STORE],
@@ -91,7 +96,7 @@ pub fn run(args: Args) -> Result<(), Error> {
         circuits: request.circuits,
         folder,
         format: if request.json { &Json } else { &Text },
-        out: BufWriter::new(io::stdout().lock()),
+        out: BufWriter::new(stdout),
     };
     let mut progress = Progress::new(input.length());
     while let Some(bytes) = input.chunk()? {
@@ -138,7 +143,7 @@ struct Decoder {
     totals: Totals,
     folder: Option<Folder>,
     format: &'static dyn Format,
-    out: BufWriter<StdoutLock<'static>>,
+    out: BufWriter<Box<dyn Write>>,
 }
 
 impl Decoder {

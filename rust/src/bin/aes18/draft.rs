@@ -2,7 +2,7 @@
 
 use std::ffi::{OsStr, OsString};
 use std::fs::{self, File};
-use std::io::{self, BufWriter, Seek, SeekFrom, Write};
+use std::io::{self, BufWriter, Seek, Write};
 use std::path::{Path, PathBuf};
 use std::{env, process};
 
@@ -31,10 +31,10 @@ impl Draft {
     /// Begins a draft of the file of that name, or of the standard output where the name is `-`.
     pub fn new(name: &OsStr) -> Result<Draft, Error> {
         let target = Target::named(name)?;
-        let name = name.to_string_lossy().into_owned();
-        let path = match &target {
-            Target::File(path) => beside(path),
-            Target::Stdout | Target::Stream(_) => temporary(),
+        let (name, path) = match &target {
+            Target::File(path) => (name.to_string_lossy().into_owned(), beside(path)),
+            Target::Stream(_) => (name.to_string_lossy().into_owned(), temporary()),
+            Target::Stdout => ("standard output".to_string(), temporary()),
         };
         let file = File::options()
             .read(true)
@@ -50,35 +50,43 @@ impl Draft {
         })
     }
 
-    /// Puts the file in its place.
-    pub fn finish(mut self) -> Result<(), Error> {
-        self.file.flush().map_err(|error| self.error(&error))?;
+    /// The name of what is written, for messages.
+    pub fn name(&self) -> String {
+        self.name.clone()
+    }
+
+    /// Writes over the first bytes, puts the file in its place and answers its length.
+    pub fn finish(mut self, first: &[u8]) -> Result<u64, Error> {
+        let failed = |error: io::Error| Error::file(&self.name, &error);
+        let length = write_over(&mut self.file, first).map_err(failed)?;
         match &self.target {
-            Target::Stdout => {
-                let copied = self.copy(&mut io::stdout().lock());
-                copied.map_err(|error| Error::stdout(&error))
-            }
-            Target::Stream(path) => {
-                let opened = File::options().write(true).open(path);
-                let copied = opened.and_then(|mut stream| self.copy(&mut stream));
-                copied.map_err(|error| self.error(&error))
-            }
-            Target::File(path) => fs::rename(&self.path, path).map_err(|error| self.error(&error)),
+            Target::File(path) => fs::rename(&self.path, path).map_err(failed)?,
+            Target::Stream(path) => File::options()
+                .write(true)
+                .open(path)
+                .and_then(|mut stream| copy(self.file.get_ref(), &mut stream))
+                .map_err(failed)?,
+            Target::Stdout => copy(self.file.get_ref(), &mut io::stdout().lock())
+                .map_err(|error| Error::stdout(&error))?,
         }
+        Ok(length)
     }
+}
 
-    /// Copies the file's bytes.
-    fn copy(&self, stream: &mut dyn Write) -> io::Result<()> {
-        let mut file = self.file.get_ref();
-        file.rewind()?;
-        io::copy(&mut file, stream)?;
-        stream.flush()
-    }
+/// Writes over a file's first bytes and answers its length.
+fn write_over(file: &mut BufWriter<File>, first: &[u8]) -> io::Result<u64> {
+    let length = file.stream_position()?;
+    file.rewind()?;
+    file.write_all(first)?;
+    file.flush()?;
+    Ok(length)
+}
 
-    /// An error of writing the draft.
-    pub fn error(&self, error: &io::Error) -> Error {
-        Error::file(&self.name, error)
-    }
+/// Copies a file's bytes.
+fn copy(mut file: &File, stream: &mut dyn Write) -> io::Result<()> {
+    file.rewind()?;
+    io::copy(&mut file, stream)?;
+    stream.flush()
 }
 
 impl Target {
@@ -118,12 +126,6 @@ impl Write for Draft {
 
     fn flush(&mut self) -> io::Result<()> {
         self.file.flush()
-    }
-}
-
-impl Seek for Draft {
-    fn seek(&mut self, position: SeekFrom) -> io::Result<u64> {
-        self.file.seek(position)
     }
 }
 

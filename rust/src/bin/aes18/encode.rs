@@ -6,9 +6,9 @@ mod sending;
 mod summary;
 mod words;
 
-use std::ffi::OsString;
+use std::ffi::{OsStr, OsString};
 use std::fs;
-use std::io::Write;
+use std::io::{self, Write};
 
 use crate::args::{self, Arg, Args};
 use crate::draft::Draft;
@@ -68,7 +68,7 @@ pub fn run(args: Args) -> Result<(), Error> {
     let plan = Plan::read(&request.plan)?;
     let mut draft = Draft::new(&request.bits)?;
     let summary = write(&plan, &mut draft)?;
-    draft.finish()?;
+    draft.finish(&[])?;
     say(&summary);
     Ok(())
 }
@@ -89,27 +89,31 @@ impl Request {
         let expected = |what: &str| Error::Usage(format!("expected {what}"));
         let plan = plan.ok_or_else(|| expected("a plan"))?;
         let bits = bits.ok_or_else(|| expected("-o BITS"))?;
-        match (fs::canonicalize(&plan), fs::canonicalize(&bits)) {
-            (Ok(from), Ok(to)) if from == to => Err(expected("another file for BITS than PLAN")),
-            _ => Ok(Request { plan, bits }),
+        match same_file(&plan, &bits) {
+            true => Err(expected("another file for BITS than PLAN")),
+            false => Ok(Request { plan, bits }),
         }
     }
 }
 
+/// Whether two names, of which `-` names no file, stand for the same file.
+fn same_file(one: &OsStr, other: &OsStr) -> bool {
+    let file = |name: &OsStr| fs::canonicalize(name).ok().filter(|_| name != "-");
+    file(one).is_some_and(|path| file(other) == Some(path))
+}
+
 /// Writes the joined bits of the plan's blocks and answers what there is to tell of them.
 fn write(plan: &Plan, draft: &mut Draft) -> Result<String, Error> {
+    let name = draft.name();
+    let failed = |error: io::Error| Error::file(&name, &error);
     let mut join = Join::default();
     let mut summary = Summary::default();
     let sender = send(plan, |made| {
         summary.block(plan, &made);
         let joined = join.put(made.bytes, made.n);
-        draft
-            .write_all(&joined)
-            .map_err(|error| draft.error(&error))
+        draft.write_all(&joined).map_err(failed)
     })?;
     let end = join.end();
-    draft
-        .write_all(end.as_slice())
-        .map_err(|error| draft.error(&error))?;
+    draft.write_all(end.as_slice()).map_err(failed)?;
     Ok(summary.end(plan, &sender))
 }

@@ -17,3 +17,22 @@ pub fn print(text: &str) -> Result<(), Error> {
 pub fn say(line: &str) {
     let _ = writeln!(io::stderr(), "{line}");
 }
+
+/// An output that may be closed at the other end; what is written to it then is nowhere read.
+pub struct Unread<W>(pub W);
+
+impl<W: Write> Write for Unread<W> {
+    fn write(&mut self, bytes: &[u8]) -> io::Result<usize> {
+        match self.0.write(bytes) {
+            Err(error) if error.kind() == io::ErrorKind::BrokenPipe => Ok(bytes.len()),
+            written => written,
+        }
+    }
+
+    fn flush(&mut self) -> io::Result<()> {
+        match self.0.flush() {
+            Err(error) if error.kind() == io::ErrorKind::BrokenPipe => Ok(()),
+            flushed => flushed,
+        }
+    }
+}
