@@ -56,7 +56,7 @@ impl Notice {
     /// It is there until a later call writes the region. It is borrowed from the store, so the compiler does not let it be kept over the next read:
     ///
     /// ```compile_fail,E0502
-    /// # use aes18::{Circuit, Receiver, RECEIVER_STORE};
+    /// # use aes18::{Receiver, RECEIVER_STORE};
     /// # fn read_two(receiver: &mut Receiver, bits: &[u8], to: u64) -> Result<(), aes18::Refusal> {
     /// let mut store = [0; RECEIVER_STORE];
     /// let read = receiver.read(&mut store, bits, 0, to)?;
@@ -70,7 +70,7 @@ impl Notice {
     /// Copy it, or be done with it before that read:
     ///
     /// ```
-    /// # use aes18::{Circuit, Receiver, RECEIVER_STORE};
+    /// # use aes18::{Receiver, RECEIVER_STORE};
     /// # fn read_two(receiver: &mut Receiver, bits: &[u8], to: u64) -> Result<(), aes18::Refusal> {
     /// let mut store = [0; RECEIVER_STORE];
     /// let read = receiver.read(&mut store, bits, 0, to)?;

@@ -37,9 +37,12 @@ fn a_long_pass_takes_little_memory() {
     long.into_inner().unwrap();
 
     let mut command = folder.command(&["decode", "--circuits", "01,02:07", "long"]);
-    let mut child = command.stdout(Stdio::piped()).spawn().unwrap();
+    command.stdout(Stdio::piped()).stderr(Stdio::piped());
+    let mut child = command.spawn().unwrap();
     let (end, memory) = follow(&mut child);
-    assert!(child.wait().unwrap().success());
+    let output = child.wait_with_output().unwrap();
+    assert!(output.status.success());
+    assert_eq!(output.stderr, b"", "a bar where there is no terminal");
     assert!((1..MOST).contains(&memory), "{memory} kB");
     let messages = 40 * times;
     let totals = format!(

@@ -37,7 +37,7 @@ impl Summary {
             let waiting = sender.waiting(number);
             if waiting > 0 {
                 self.lines += &format!(
-                    "\nwarning: circuit {number} ({circuit}): {} still to place; the plan has no block for them",
+                    "\nwarning: circuit {number} ({circuit}): {} waiting for a later block",
                     count(waiting as u64, "packet")
                 );
             }
