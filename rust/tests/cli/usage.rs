@@ -23,7 +23,6 @@ fn help() {
 #[test]
 fn wrong_usage() {
     const CIRCUIT: &str = "--circuits: expected a circuit ADDR or ADDR:EXT, each one or two hex digits, such as 01 or 02:07";
-    let two_files = "expected no other file beside 'a'";
     let the_plan = "expected another file for BITS than PLAN";
     let no_circuits = "the option --circuits needs a list of circuits";
     let cases: [(&[&str], &str); 15] = [
@@ -36,7 +35,7 @@ fn wrong_usage() {
             &["encode", "plan", "-o"],
             "the option -o needs a file of user bits",
         ),
-        (&["encode", "a", "b", "-o", "c"], two_files),
+        (&["encode", "a", "b", "-o", "c"], "'b' is one file too many"),
         (&["encode", "plan", "--json"], "no option '--json'"),
         (&["encode", "there", "-o", "./there"], the_plan),
         (&["decode", "bits"], "expected --circuits ADDR[:EXT],.."),

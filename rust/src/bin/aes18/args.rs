@@ -92,11 +92,12 @@ pub fn unknown_option(option: &str) -> Error {
 
 /// Keeps a subcommand's one operand; a second one is a usage error.
 pub fn keep_operand(kept: &mut Option<OsString>, operand: OsString) -> Result<(), Error> {
-    match kept.replace(operand) {
-        None => Ok(()),
-        Some(first) => Err(Error::Usage(format!(
-            "expected no other file beside '{}'",
-            first.to_string_lossy()
-        ))),
+    if kept.is_some() {
+        return Err(Error::Usage(format!(
+            "'{}' is one file too many",
+            operand.to_string_lossy()
+        )));
     }
+    *kept = Some(operand);
+    Ok(())
 }
