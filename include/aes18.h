@@ -1,0 +1,236 @@
+/*
+ * The AES18 user-bit channel: messages in the user bits of AES3 audio (ITU-R BS.776 with HDLC framing).
+ *
+ * A sender lists circuits, takes messages and makes blocks of user bits. A receiver lists circuits and reads bits, cut anywhere, up to the next
+ * notice. These are the functions of the static library libaes18.a for x86-64, which `rt staticlib aes18` proves and writes; docs/PROOFS.md says what
+ * is proved of them. Document 01 is the specification: refusals have its numbers, and its words stand in quotation marks.
+ *
+ * What is lent. Every array is lent as a pointer and its length in bytes, for the time of the call. With length 0 any pointer will do, a null
+ * pointer too, and is not followed. An array that a call writes (record, block, answer, and the store of an offer and of a read) must not overlap
+ * any other array of the same call. Arrays that are only read may overlap each other.
+ *
+ * Ends. All that a sender or a receiver is stands in its record and its store. The calls keep no other state, take no memory from the system
+ * and wait for nothing, so calls for different ends may interrupt each other or run at the same time. Each end lends the record as the call
+ * before left it, and the same store in all its calls; nobody else writes either in between.
+ *
+ * Answers. Every call returns AES18_ACCEPTED or the number of a refusal, for any input; nothing has to be checked before. A refused call leaves
+ * every lent byte as it was, but for a refused listing, which writes the record of no circuits.
+ *
+ * Bits. Bit k of a block, or of bits lent for reading, is the bit of value 1 << (k % 8) in byte k / 8: a byte's lowest bit is sent first.
+ * Numbers of several bytes, in answers and records, have their lowest byte first.
+ */
+#ifndef AES18_H
+#define AES18_H
+
+#include <stddef.h>
+#include <stdint.h>
+
+#ifdef __cplusplus
+extern "C" {
+#endif
+
+/* Lengths in bytes of what is lent. Records, stores and answers may be longer; the bytes behind are not looked at and keep their values. */
+#define AES18_SENDER_RECORD 46
+#define AES18_RECEIVER_RECORD 61
+#define AES18_SENDER_STORE 16384
+#define AES18_RECEIVER_STORE 16400
+#define AES18_BLOCK_ANSWER 8
+#define AES18_READ_ANSWER 16
+
+/*
+ * The store. Region c begins at byte 4096 * c and belongs to circuit number c, 0 to 3. At a sender the message last taken stands at the start of
+ * the region; blocks are made from there while a copy of it is to be placed. At a receiver message bytes are collected from the region's start, and
+ * the 16 bytes from byte 16384 on, the system place, hold the information of the system packet last heard.
+ */
+#define AES18_REGION 4096
+#define AES18_SYSTEM_PLACE 16384
+
+/*
+ * The circuit list: one to four circuits, numbered from 0 in the order of the list, of three bytes each: the address, 1 or 0 for extension
+ * present or not, and the extension, which is 0 where there is none. An address may have different numbers at the two ends.
+ */
+#define AES18_CIRCUIT_BYTES 3
+#define AES18_MOST_CIRCUITS 4
+
+/* What the calls take: a message in bytes, its priority (3 is the highest) and repetition; a block in bits and in bytes; a system packet. */
+#define AES18_LONGEST_MESSAGE 4094
+#define AES18_HIGHEST_PRIORITY 3
+#define AES18_MOST_REPETITIONS 5
+#define AES18_FEWEST_BLOCK_BITS 256
+#define AES18_MOST_BLOCK_BITS 27000
+#define AES18_LONGEST_BLOCK 3375
+#define AES18_ALL_ENABLED 15
+#define AES18_HIGHEST_CODE 8
+#define AES18_LONGEST_INFORMATION 15
+
+/*
+ * Refusals, in the words of document 01. Where several apply, a call gives the first in its own order, which stands at its declaration by the names
+ * without AES18_REFUSED_. SHORT is no number of document 01: it comes before all others, with nothing read or written.
+ */
+#define AES18_ACCEPTED 0
+#define AES18_REFUSED_LIST 1        /* "length not 3, 6, 9 or 12" */
+#define AES18_REFUSED_ADDRESS 2     /* "an address FF hex" */
+#define AES18_REFUSED_EXTENSION 3   /* "a middle byte above 1, or 0 with an extension byte other than 0" */
+#define AES18_REFUSED_ALIKE 4       /* "two circuits alike" */
+#define AES18_REFUSED_STORE 5       /* "store too short" */
+#define AES18_REFUSED_CIRCUIT 6     /* "circuit number not listed" */
+#define AES18_REFUSED_PRIORITY 7    /* "priority above 3" */
+#define AES18_REFUSED_REPETITION 8  /* "repetition above 5" */
+#define AES18_REFUSED_MESSAGE 9     /* "message above 4,094" */
+#define AES18_REFUSED_PENDING 10    /* "an earlier message there still has a copy to place" */
+#define AES18_REFUSED_BLOCK 11      /* "N outside 256 to 27,000 or U outside 256 to N" */
+#define AES18_REFUSED_BUFFER 12     /* "buffer under N bits" */
+#define AES18_REFUSED_SYSTEM 13     /* "only if a system packet is wanted, enable bits above 15, code above 8 or information above 15 bytes" */
+#define AES18_REFUSED_RECORD 14     /* "a record out of range .., which no record made by calls is"; the ranges stand at the records below */
+#define AES18_REFUSED_BITS 15       /* "from above to, or to past the bytes lent" */
+#define AES18_REFUSED_SHORT 255     /* the record or the answer is shorter than it has to be */
+
+/*
+ * Records. A record is a value: it may be copied, and a copy of record and store together is a copy of the end. Its layout is told for those who
+ * display it or look into it. It is no storage format, and a later version may lay records out differently; what is worth keeping of a pass is
+ * its user bits.
+ *
+ * The sender's record, 46 bytes:
+ *   0        number of circuits, 0 to 4
+ *   1 to 12  the circuits, as in a list; the places behind the listed ones are 0
+ *   13 to 44 for each circuit number 8 bytes:
+ *              0     continuity index of its next packet, 0 to 7
+ *              1     priority of its last message, 0 to 3
+ *              2     repetition of its last message, 0 to 5
+ *              3     copy: how many copies are placed of the packet that is next, at most the repetition
+ *              4, 5  length of its last message, 0 to 4094
+ *              6, 7  place: how many packets of that message have every copy placed
+ *            A message of up to 15 bytes has 1 packet, a longer one of n bytes (n + 17) / 16, rounded down. The message has a copy to place as long
+ *            as place is below this number, and place is never above it.
+ *   45       number of the circuit last served, 0 to 3
+ * As listed, every circuit number has 0, 0, 0, 0, 0, 0, 1, 0 (nothing to place), and the circuit last served is 3, so that circuit 0 comes first.
+ * The record of no circuits, which a refused listing writes, is 13 times 0, four times 0, 0, 0, 0, 0, 0, 1, 0, and 3.
+ *
+ * The receiver's record, 61 bytes:
+ *   0 to 12  number of circuits and circuits, as above
+ *   13 to 36 for each circuit number 6 bytes:
+ *              0     1 if a packet of it came, else 0
+ *              1     continuity index of the last packet that came, 0 to 7
+ *              2, 3  length of the open message, 0 to 4094
+ *              4, 5  place: how many bytes of it are written
+ *            A message is open exactly if place is below length, and place is never above it; where none is open, calls leave both 0.
+ *   37 to 60 framing, what is kept between one bit and the next:
+ *              37       phase: 0 no zero is read that could begin a flag (at first, and after seven ones); 1 outside a body, behind such a zero;
+ *                       in a body: 2 the last zero is the opening flag's own, 3 it is a plain bit, 4 it stands behind five ones
+ *              38       how many ones stand behind that zero, 0 to 6
+ *              39       how many unstuffed bits the body has before that zero, 0 to 168, or 169 for more
+ *              40 to 60 these bits, lowest first; 0 where there is none, and all 0 where there are more than 168
+ * As listed, everything behind the circuits is 0. The record of no circuits is 61 times 0.
+ *
+ * Out of range, and refused by RECORD, are: more than four circuits, circuits that a listing refuses by ADDRESS, EXTENSION or ALIKE, a number of a
+ * listed circuit outside what stands here, a circuit last served above 3, a framing that no bits leave, and 2 or more where a byte is 1 or 0.
+ */
+
+/*
+ * Makes a sender: writes the record for the circuits of the list.
+ * Refusals, in order: SHORT, LIST, ADDRESS, EXTENSION, ALIKE, each looked for in the whole list. All but SHORT write the record of no circuits,
+ * and only the first AES18_SENDER_RECORD bytes.
+ */
+uint32_t aes18_sender_list(uint8_t *record, size_t record_len, const uint8_t *list, size_t list_len);
+
+/*
+ * Offers a message of 0 to 4094 bytes at a circuit number. It is copied to the start of the circuit's region, so the caller's own is not needed any
+ * longer. Its packets wait to be placed in blocks, each once and then as often again as the repetition says. A circuit takes its next message when
+ * the last copy of the one before is placed.
+ * Refusals, in order: SHORT, RECORD, STORE, CIRCUIT, PRIORITY, REPETITION, MESSAGE, PENDING.
+ */
+uint32_t aes18_sender_offer(uint8_t *record, size_t record_len, uint8_t *store, size_t store_len, uint64_t circuit, uint64_t priority,
+                            uint64_t repetition, const uint8_t *message, size_t message_len);
+
+/*
+ * Makes a block of n user bits, of which the first u may be used, and writes it to the (n + 7) / 8 first bytes of `block`. Spare bits of the last
+ * of them are 0; bytes behind it keep their values. In the block are a flag, the system packet's frame and a flag if one is wanted, then frames of
+ * waiting packets by priority, each with a flag after it, as long as they do not pass u, and ones up to n.
+ * `system` is 0 for no system packet; then enable, code and info are not looked at and all priorities may be sent. Any other number asks for one
+ * with these enable bits (1 << p enables priority p, in this block), this block code and these information bytes.
+ * The answer, 8 bytes, is two numbers of 4 bytes each: the frames placed, without the system packet's, and the bits used, which are those before
+ * the closing ones.
+ * Refusals, in order: SHORT, RECORD, STORE, BLOCK, BUFFER, SYSTEM.
+ */
+uint32_t aes18_sender_block(uint8_t *record, size_t record_len, const uint8_t *store, size_t store_len, uint64_t n, uint64_t u, uint64_t system,
+                            uint64_t enable, uint64_t code, const uint8_t *info, size_t info_len, uint8_t *block, size_t block_len, uint8_t *answer,
+                            size_t answer_len);
+
+/* Where the numbers stand in a block's answer. */
+#define AES18_BLOCK_PLACED 0
+#define AES18_BLOCK_USED 4
+
+/*
+ * Makes a receiver: writes the record for the circuits of the list. The refusals are those of aes18_sender_list; a refused listing writes the
+ * first AES18_RECEIVER_RECORD bytes.
+ */
+uint32_t aes18_receiver_list(uint8_t *record, size_t record_len, const uint8_t *list, size_t list_len);
+
+/*
+ * Reads the bits from number `from` on, up to and without number `to`, of the bytes lent. It stops behind the first bit that gives a notice, or at
+ * the end with the notice END. So a stretch of bits is read by a loop:
+ *
+ *     do {
+ *         refusal = aes18_receiver_read(record, sizeof record, store, sizeof store, bits, bits_len, from, to, answer, sizeof answer);
+ *         (leave the loop if it is refused)
+ *         from += (the bits read: the number in bytes 8 to 15 of the answer);
+ *         (take what the notice tells)
+ *     } while (answer[AES18_READ_NOTICE] != AES18_NOTICE_END);
+ *
+ * The next call, with other bytes or the same, goes on as if the bits had never been cut. A cut may be anywhere, inside a flag too.
+ *
+ * The answer, 16 bytes; what does not apply to a notice is 0:
+ *   0        the notice
+ *   1        CIRCUIT: the circuit's number; SYSTEM: the enable bits
+ *   2        CIRCUIT: the loss; SYSTEM: the block code
+ *   3        CIRCUIT: the fate; SYSTEM: the length of the information
+ *   4, 5     WHOLE: the length of the message
+ *   6, 7     0
+ *   8 to 15  the bits read by this call
+ *
+ * At WHOLE the message is handed over: it begins the circuit's region, at byte AES18_REGION * number of the store, and stays there until a later
+ * read tells BEGUN or WHOLE at that circuit and so writes the region. At SYSTEM the information begins at byte AES18_SYSTEM_PLACE of the store and
+ * stays there until the next SYSTEM. BEGUN, HELD and WHOLE write their message bytes, SYSTEM its information, and nothing else in the store changes.
+ * Refusals, in order: SHORT, RECORD, STORE, BITS.
+ */
+uint32_t aes18_receiver_read(uint8_t *record, size_t record_len, uint8_t *store, size_t store_len, const uint8_t *bits, size_t bits_len,
+                             uint64_t from, uint64_t to, uint8_t *answer, size_t answer_len);
+
+/* Where the numbers stand in a read's answer. */
+#define AES18_READ_NOTICE 0
+#define AES18_READ_CIRCUIT 1
+#define AES18_READ_ENABLE 1
+#define AES18_READ_LOSS 2
+#define AES18_READ_CODE 2
+#define AES18_READ_FATE 3
+#define AES18_READ_INFORMATION 3
+#define AES18_READ_MESSAGE 4
+#define AES18_READ_BITS 8
+
+/*
+ * Notices. A body is the bits between one flag and the next. It passes if it unstuffs to 4 to 21 whole bytes, the FCS at their end is right, and
+ * it does not end in five ones. Bodies that do not pass give no notice if they unstuff to less than 32 bits or have seven ones in a row.
+ */
+#define AES18_NOTICE_END 0       /* the bits up to `to` are read */
+#define AES18_NOTICE_SPOILT 1    /* a body that does not pass */
+#define AES18_NOTICE_MALFORMED 2 /* a body that passes and is no packet: document 01, "Notices", has the cases */
+#define AES18_NOTICE_SYSTEM 3    /* a system packet */
+#define AES18_NOTICE_ELSEWHERE 4 /* a packet of no listed circuit */
+#define AES18_NOTICE_CIRCUIT 5   /* a packet of a listed circuit */
+
+/*
+ * Fates: what became of a circuit's packet. The loss beside it, 0 to 6, is how many packets of the circuit are missing before this one by the
+ * continuity index. A loss drops the open message, and so does the first packet of another one.
+ */
+#define AES18_FATE_COPY 0   /* the index of the circuit's last packet again; loss 0, and nothing changes */
+#define AES18_FATE_BEGUN 1  /* the first packet of a message that more are due to, which is open now */
+#define AES18_FATE_HELD 2   /* the next packet of the open message; more are due */
+#define AES18_FATE_WHOLE 3  /* the last or only packet of a message, which is handed over */
+#define AES18_FATE_ORPHAN 4 /* a packet between or last, and no message is open */
+#define AES18_FATE_WRONG 5  /* its header or length does not fit; no message is open behind it */
+
+#ifdef __cplusplus
+}
+#endif
+
+#endif

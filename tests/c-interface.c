@@ -1,0 +1,707 @@
+/*
+ * The edges of the interface, called from C (tests/c builds and runs this). Every array is lent so that it ends at a page that must not be touched,
+ * with known bytes before it, and after every call what must not change is compared. A failed comparison is printed with its line.
+ */
+#define _DEFAULT_SOURCE
+#include "aes18.h"
+
+#include <stdio.h>
+#include <stdlib.h>
+#include <string.h>
+#include <sys/mman.h>
+
+enum { PAGE = 4096, ARENA = 5 * PAGE, BEFORE = 0xA5, OLD = 0x5A };
+
+/* The arrays of a call; INPUT is its list, message, system information or bits. */
+enum { RECORD, STORE, INPUT, BLOCK, ANSWER, ARRAYS };
+
+struct call {
+    uint8_t bytes[ARRAYS][ARENA];
+    size_t length[ARRAYS];
+    uint64_t circuit, priority, repetition;
+    uint64_t n, u, system, enable, code;
+    uint64_t from, to;
+};
+
+/* One of the five functions, and the arrays that it writes where it accepts and where it refuses. */
+struct function {
+    uint32_t (*run)(const struct call *c, uint8_t *const at[ARRAYS]);
+    unsigned writes, writes_refused;
+    size_t record, store, answer;
+};
+
+static uint8_t *arenas[ARRAYS]; /* each between two pages that must not be touched */
+static uint8_t *nowhere;        /* where an array of no bytes is said to be */
+static int failures, refused[256], noticed[6], became[6];
+
+static void is(int line, uint64_t found, uint64_t wanted)
+{
+    if (found == wanted)
+        return;
+    printf("tests/c-interface.c:%d: %lu where %lu is wanted\n", line, (unsigned long)found, (unsigned long)wanted);
+    failures++;
+}
+
+static void equal(int line, const uint8_t *found, const uint8_t *wanted, size_t length)
+{
+    size_t i = 0;
+
+    while (i < length && found[i] == wanted[i])
+        i++;
+    if (i == length)
+        return;
+    printf("tests/c-interface.c:%d: byte %lu is %u where %u is wanted\n", line, (unsigned long)i, found[i], wanted[i]);
+    failures++;
+}
+
+/* All bytes are the same. */
+static void all(int line, const uint8_t *found, uint8_t wanted, size_t length)
+{
+    size_t i = 0;
+
+    while (i < length && found[i] == wanted)
+        i++;
+    is(line, i, length);
+}
+
+#define COUNT(array) (sizeof array / sizeof array[0])
+#define IS(found, wanted) is(__LINE__, found, wanted)
+#define EQUAL(found, wanted, length) equal(__LINE__, found, wanted, length)
+#define ALL(found, wanted, length) all(__LINE__, found, wanted, length)
+
+static uint32_t sender_list(const struct call *c, uint8_t *const at[ARRAYS])
+{
+    return aes18_sender_list(at[RECORD], c->length[RECORD], at[INPUT], c->length[INPUT]);
+}
+
+static uint32_t sender_offer(const struct call *c, uint8_t *const at[ARRAYS])
+{
+    return aes18_sender_offer(at[RECORD], c->length[RECORD], at[STORE], c->length[STORE], c->circuit, c->priority, c->repetition, at[INPUT],
+                              c->length[INPUT]);
+}
+
+static uint32_t sender_block(const struct call *c, uint8_t *const at[ARRAYS])
+{
+    return aes18_sender_block(at[RECORD], c->length[RECORD], at[STORE], c->length[STORE], c->n, c->u, c->system, c->enable, c->code, at[INPUT],
+                              c->length[INPUT], at[BLOCK], c->length[BLOCK], at[ANSWER], c->length[ANSWER]);
+}
+
+static uint32_t receiver_list(const struct call *c, uint8_t *const at[ARRAYS])
+{
+    return aes18_receiver_list(at[RECORD], c->length[RECORD], at[INPUT], c->length[INPUT]);
+}
+
+static uint32_t receiver_read(const struct call *c, uint8_t *const at[ARRAYS])
+{
+    return aes18_receiver_read(at[RECORD], c->length[RECORD], at[STORE], c->length[STORE], at[INPUT], c->length[INPUT], c->from, c->to, at[ANSWER],
+                               c->length[ANSWER]);
+}
+
+static const struct function list_sender = {sender_list, 1 << RECORD, 1 << RECORD, AES18_SENDER_RECORD, 0, 0};
+static const struct function offer = {sender_offer, 1 << RECORD | 1 << STORE, 0, AES18_SENDER_RECORD, AES18_SENDER_STORE, 0};
+static const struct function block = {
+    sender_block, 1 << RECORD | 1 << BLOCK | 1 << ANSWER, 0, AES18_SENDER_RECORD, AES18_SENDER_STORE, AES18_BLOCK_ANSWER};
+static const struct function list_receiver = {receiver_list, 1 << RECORD, 1 << RECORD, AES18_RECEIVER_RECORD, 0, 0};
+static const struct function reading = {
+    receiver_read, 1 << RECORD | 1 << STORE | 1 << ANSWER, 0, AES18_RECEIVER_RECORD, AES18_RECEIVER_STORE, AES18_READ_ANSWER};
+
+static void make_arenas(void)
+{
+    int a;
+
+    for (a = 0; a < ARRAYS; a++) {
+        uint8_t *pages = (uint8_t *)mmap(NULL, ARENA + 2 * PAGE, PROT_NONE, MAP_PRIVATE | MAP_ANONYMOUS, -1, 0);
+
+        if (pages == MAP_FAILED || mprotect(pages + PAGE, ARENA, PROT_READ | PROT_WRITE) != 0) {
+            perror("tests/c-interface.c: mmap");
+            exit(EXIT_FAILURE);
+        }
+        arenas[a] = pages + PAGE;
+    }
+}
+
+/* Lends a copy of every array, calls, compares what must not have changed, and takes back what may have. */
+static uint32_t call(int line, struct call *c, const struct function *f)
+{
+    uint8_t *at[ARRAYS];
+    uint32_t refusal;
+    unsigned writes;
+    int a;
+
+    for (a = 0; a < ARRAYS; a++) {
+        size_t free = ARENA - c->length[a];
+
+        memset(arenas[a], BEFORE, free);
+        memcpy(arenas[a] + free, c->bytes[a], c->length[a]);
+        at[a] = c->length[a] == 0 ? nowhere : arenas[a] + free;
+    }
+    refusal = f->run(c, at);
+    writes = refusal == AES18_ACCEPTED ? f->writes : refusal == AES18_REFUSED_SHORT ? 0 : f->writes_refused;
+    for (a = 0; a < ARRAYS; a++) {
+        size_t free = ARENA - c->length[a];
+
+        all(line, arenas[a], BEFORE, free);
+        if (writes >> a & 1)
+            memcpy(c->bytes[a], arenas[a] + free, c->length[a]);
+        else
+            equal(line, arenas[a] + free, c->bytes[a], c->length[a]);
+    }
+    refused[refusal & 255] = 1;
+    return refusal;
+}
+
+#define CALL(c, f, wanted) is(__LINE__, call(__LINE__, c, f), wanted)
+
+static void put(struct call *c, int array, const void *bytes, size_t length)
+{
+    memcpy(c->bytes[array], bytes, length);
+    c->length[array] = length;
+}
+
+/* All arrays hold old bytes; record, store and answer are as long as the function has them. */
+static void prepare(struct call *c, const struct function *f)
+{
+    memset(c->bytes, OLD, sizeof c->bytes);
+    memset(c->length, 0, sizeof c->length);
+    c->length[RECORD] = f->record;
+    c->length[STORE] = f->store;
+    c->length[ANSWER] = f->answer;
+}
+
+/* A freshly listed end, ready to call a function. */
+static void prepare_listed(struct call *c, const struct function *list, const struct function *f, const void *circuits, size_t length)
+{
+    prepare(c, list);
+    put(c, INPUT, circuits, length);
+    CALL(c, list, AES18_ACCEPTED);
+    c->length[STORE] = f->store;
+    c->length[ANSWER] = f->answer;
+}
+
+/* Numbers above the highest one accepted, some of which are equal to it in their low bytes, are refused. The highest one is left there. */
+static void too_high(int line, struct call *c, const struct function *f, uint64_t *number, uint64_t highest, uint32_t refusal)
+{
+    const uint64_t numbers[] = {highest + 1, highest + 256, highest + 65536, highest + 4294967296u, UINT64_MAX};
+    size_t i;
+
+    for (i = 0; i < COUNT(numbers); i++) {
+        *number = numbers[i];
+        is(line, call(line, c, f), refusal);
+    }
+    *number = highest;
+}
+
+#define TOO_HIGH(c, f, number, highest, refusal) too_high(__LINE__, c, f, number, highest, refusal)
+
+/* A number of `size` bytes, lowest first. */
+static uint64_t number(const uint8_t *bytes, size_t size)
+{
+    uint64_t value = 0;
+
+    while (size-- > 0)
+        value = value << 8 | bytes[size];
+    return value;
+}
+
+static const uint8_t two_circuits[] = {0x01, 0, 0, 0x02, 1, 0x07};
+
+/* The circuit part of the record of two_circuits. */
+static const uint8_t two_listed[13] = {2, 0x01, 0, 0, 0x02, 1, 0x07};
+
+#define FRESH_SLOT 0, 0, 0, 0, 0, 0, 1, 0
+static const uint8_t no_sender[AES18_SENDER_RECORD] = {0, 0, 0, 0, 0, 0, 0, 0, 0, 0, 0, 0, 0, FRESH_SLOT, FRESH_SLOT, FRESH_SLOT, FRESH_SLOT, 3};
+static const uint8_t no_receiver[AES18_RECEIVER_RECORD] = {0};
+
+static const struct {
+    uint8_t list[12];
+    size_t length;
+    uint32_t refusal;
+} lists[] = {
+    {{0xFF, 0, 0}, 3, AES18_REFUSED_ADDRESS},
+    {{1, 2, 0}, 3, AES18_REFUSED_EXTENSION},
+    {{1, 255, 7}, 3, AES18_REFUSED_EXTENSION},
+    {{1, 0, 1}, 3, AES18_REFUSED_EXTENSION},
+    {{1, 1, 5, 2, 0, 0, 3, 0, 0, 1, 1, 5}, 12, AES18_REFUSED_ALIKE},
+    {{1, 2, 0, 0xFF, 0, 0}, 6, AES18_REFUSED_ADDRESS},
+    {{1, 0, 0, 1, 0, 0, 2, 2, 0}, 9, AES18_REFUSED_EXTENSION},
+};
+
+/* What a listing writes, of all lengths of lists and of records. */
+static void test_listing(const struct function *list, const uint8_t *none)
+{
+    static struct call c;
+    size_t i;
+
+    for (i = 0; i < COUNT(lists); i++) {
+        prepare(&c, list);
+        put(&c, INPUT, lists[i].list, lists[i].length);
+        CALL(&c, list, lists[i].refusal);
+        EQUAL(c.bytes[RECORD], none, list->record);
+    }
+    for (i = 0; i <= 15; i++) {
+        prepare(&c, list);
+        memset(c.bytes[INPUT], 0, i);
+        c.length[INPUT] = i;
+        CALL(&c, list, i == 3 ? AES18_ACCEPTED : i == 6 || i == 9 || i == 12 ? AES18_REFUSED_ALIKE : AES18_REFUSED_LIST);
+        EQUAL(c.bytes[RECORD] + 1, none + 1, list->record - 1);
+        IS(c.bytes[RECORD][0], i == 3);
+    }
+    prepare(&c, list);
+    put(&c, INPUT, two_circuits, sizeof two_circuits);
+    c.length[RECORD] = 0;
+    CALL(&c, list, AES18_REFUSED_SHORT);
+    c.length[RECORD] = list->record - 1;
+    CALL(&c, list, AES18_REFUSED_SHORT);
+    c.length[RECORD] = list->record + 5;
+    CALL(&c, list, AES18_ACCEPTED);
+    EQUAL(c.bytes[RECORD], two_listed, sizeof two_listed);
+    EQUAL(c.bytes[RECORD] + sizeof two_listed, none + sizeof two_listed, list->record - sizeof two_listed);
+    ALL(c.bytes[RECORD] + list->record, OLD, 5);
+}
+
+/* A call of which everything is wrong is refused for record, answer and store, in this order, as one after the other is put right. */
+static void test_lent(struct call *c, const struct function *f)
+{
+    c->bytes[RECORD][0] = AES18_MOST_CIRCUITS + 1;
+    c->length[STORE] = 0;
+    c->length[RECORD] = 0;
+    CALL(c, f, AES18_REFUSED_SHORT);
+    c->length[RECORD] = f->record - 1;
+    CALL(c, f, AES18_REFUSED_SHORT);
+    c->length[RECORD] = f->record;
+    if (f->answer > 0) {
+        c->length[ANSWER] = 0;
+        CALL(c, f, AES18_REFUSED_SHORT);
+        c->length[ANSWER] = f->answer - 1;
+        CALL(c, f, AES18_REFUSED_SHORT);
+        c->length[ANSWER] = f->answer;
+    }
+    CALL(c, f, AES18_REFUSED_RECORD);
+    c->bytes[RECORD][0] = 2;
+    CALL(c, f, AES18_REFUSED_STORE);
+    c->length[STORE] = f->store - 1;
+    CALL(c, f, AES18_REFUSED_STORE);
+    c->length[STORE] = f->store;
+}
+
+/* Everything is wrong with an offer at first; then one thing after the other is put right. */
+static void test_offer(void)
+{
+    static const uint8_t slot[] = {0, AES18_HIGHEST_PRIORITY, AES18_MOST_REPETITIONS, 0, 0xFE, 0x0F, 0, 0};
+    static struct call c;
+
+    prepare_listed(&c, &list_sender, &offer, two_circuits, sizeof two_circuits);
+    c.length[INPUT] = AES18_LONGEST_MESSAGE + 1;
+    c.circuit = c.priority = c.repetition = UINT64_MAX;
+    test_lent(&c, &offer);
+    TOO_HIGH(&c, &offer, &c.circuit, 1, AES18_REFUSED_CIRCUIT);
+    TOO_HIGH(&c, &offer, &c.priority, AES18_HIGHEST_PRIORITY, AES18_REFUSED_PRIORITY);
+    TOO_HIGH(&c, &offer, &c.repetition, AES18_MOST_REPETITIONS, AES18_REFUSED_REPETITION);
+    CALL(&c, &offer, AES18_REFUSED_MESSAGE);
+    c.length[INPUT] = AES18_LONGEST_MESSAGE;
+    memset(c.bytes[INPUT], 0x11, AES18_LONGEST_MESSAGE);
+    CALL(&c, &offer, AES18_ACCEPTED);
+    EQUAL(c.bytes[RECORD], two_listed, sizeof two_listed);
+    EQUAL(c.bytes[RECORD] + 13, no_sender + 13, 8);
+    EQUAL(c.bytes[RECORD] + 21, slot, sizeof slot);
+    EQUAL(c.bytes[RECORD] + 29, no_sender + 29, AES18_SENDER_RECORD - 29);
+    ALL(c.bytes[STORE], OLD, AES18_REGION);
+    ALL(c.bytes[STORE] + AES18_REGION, 0x11, AES18_LONGEST_MESSAGE);
+    ALL(c.bytes[STORE] + AES18_REGION + AES18_LONGEST_MESSAGE, OLD, AES18_SENDER_STORE - AES18_REGION - AES18_LONGEST_MESSAGE);
+    c.length[INPUT] = AES18_LONGEST_MESSAGE + 1;
+    CALL(&c, &offer, AES18_REFUSED_MESSAGE);
+    c.length[INPUT] = 0;
+    CALL(&c, &offer, AES18_REFUSED_PENDING);
+}
+
+/* The same with a block of 1,003 bits. */
+static void test_block_refusals(void)
+{
+    enum { BITS = 1003, BYTES = 126 };
+    static struct call c;
+
+    prepare_listed(&c, &list_sender, &block, two_circuits, sizeof two_circuits);
+    c.length[INPUT] = AES18_LONGEST_INFORMATION + 1;
+    c.n = c.u = c.system = c.enable = c.code = UINT64_MAX;
+    test_lent(&c, &block);
+    c.u = AES18_FEWEST_BLOCK_BITS;
+    TOO_HIGH(&c, &block, &c.n, AES18_MOST_BLOCK_BITS, AES18_REFUSED_BLOCK);
+    c.length[BLOCK] = AES18_LONGEST_BLOCK - 1;
+    CALL(&c, &block, AES18_REFUSED_BUFFER);
+    c.length[BLOCK] = AES18_LONGEST_BLOCK;
+    CALL(&c, &block, AES18_REFUSED_SYSTEM);
+    c.n = AES18_FEWEST_BLOCK_BITS - 1;
+    CALL(&c, &block, AES18_REFUSED_BLOCK);
+    c.n = BITS;
+    TOO_HIGH(&c, &block, &c.u, BITS, AES18_REFUSED_BLOCK);
+    c.u = AES18_FEWEST_BLOCK_BITS - 1;
+    CALL(&c, &block, AES18_REFUSED_BLOCK);
+    c.u = BITS;
+    c.length[BLOCK] = 0;
+    CALL(&c, &block, AES18_REFUSED_BUFFER);
+    c.length[BLOCK] = BYTES - 1;
+    CALL(&c, &block, AES18_REFUSED_BUFFER);
+    c.length[BLOCK] = BYTES;
+    CALL(&c, &block, AES18_REFUSED_SYSTEM);
+    c.length[INPUT] = 0;
+    c.code = AES18_HIGHEST_CODE;
+    TOO_HIGH(&c, &block, &c.enable, AES18_ALL_ENABLED, AES18_REFUSED_SYSTEM);
+    TOO_HIGH(&c, &block, &c.code, AES18_HIGHEST_CODE, AES18_REFUSED_SYSTEM);
+    c.length[INPUT] = AES18_LONGEST_INFORMATION + 1;
+    CALL(&c, &block, AES18_REFUSED_SYSTEM);
+    c.length[INPUT] = AES18_LONGEST_INFORMATION;
+    CALL(&c, &block, AES18_ACCEPTED);
+}
+
+/* A block of nothing: without a system packet, what one would have is not looked at. The last byte has spare bits, and two bytes stand behind it. */
+static void test_empty_block(void)
+{
+    static const uint8_t empty[AES18_BLOCK_ANSWER] = {0, 0, 0, 0, 8, 0, 0, 0};
+    static struct call c;
+
+    prepare_listed(&c, &list_sender, &block, two_circuits, sizeof two_circuits);
+    c.n = c.u = 257;
+    c.system = 0;
+    c.enable = c.code = UINT64_MAX;
+    c.length[INPUT] = AES18_LONGEST_INFORMATION + 1;
+    c.length[BLOCK] = 35;
+    c.length[ANSWER] = AES18_BLOCK_ANSWER + 3;
+    CALL(&c, &block, AES18_ACCEPTED);
+    EQUAL(c.bytes[ANSWER], empty, sizeof empty);
+    ALL(c.bytes[ANSWER] + AES18_BLOCK_ANSWER, OLD, 3);
+    IS(c.bytes[BLOCK][0], 0x7E);
+    ALL(c.bytes[BLOCK] + 1, 0xFF, 31);
+    IS(c.bytes[BLOCK][32], 0x01);
+    ALL(c.bytes[BLOCK] + 33, OLD, 2);
+}
+
+/* Every number but 0 asks for a system packet, and its enable bits rule the block. */
+static void test_system(void)
+{
+    static const uint64_t wanted[] = {1, 256, 65536, 4294967296u, UINT64_MAX};
+    static struct call c;
+    uint8_t first[32];
+    size_t i;
+
+    prepare_listed(&c, &list_sender, &block, two_circuits, sizeof two_circuits);
+    c.circuit = c.repetition = c.code = 0;
+    c.priority = 2;
+    c.length[INPUT] = 0;
+    CALL(&c, &offer, AES18_ACCEPTED);
+    c.n = c.u = 256;
+    c.length[BLOCK] = sizeof first;
+    c.enable = AES18_ALL_ENABLED - (1 << 2);
+    for (i = 0; i < COUNT(wanted); i++) {
+        c.system = wanted[i];
+        CALL(&c, &block, AES18_ACCEPTED);
+        IS(number(c.bytes[ANSWER] + AES18_BLOCK_PLACED, 4), 0);
+        IS(number(c.bytes[ANSWER] + AES18_BLOCK_USED, 4) > 8, 1);
+        if (i == 0)
+            memcpy(first, c.bytes[BLOCK], sizeof first);
+        EQUAL(c.bytes[BLOCK], first, sizeof first);
+    }
+    c.enable = 1 << 2;
+    CALL(&c, &block, AES18_ACCEPTED);
+    IS(number(c.bytes[ANSWER] + AES18_BLOCK_PLACED, 4), 1);
+}
+
+/* Everything is wrong with a reading call of two bytes at first; then of no bytes. */
+static void test_read_refusals(void)
+{
+    static const uint8_t end[AES18_READ_ANSWER] = {AES18_NOTICE_END};
+    static struct call c;
+
+    prepare_listed(&c, &list_receiver, &reading, two_circuits, sizeof two_circuits);
+    c.length[INPUT] = 2;
+    c.from = c.to = UINT64_MAX;
+    test_lent(&c, &reading);
+    CALL(&c, &reading, AES18_REFUSED_BITS);
+    c.from = 0;
+    TOO_HIGH(&c, &reading, &c.to, 16, AES18_REFUSED_BITS);
+    TOO_HIGH(&c, &reading, &c.from, 16, AES18_REFUSED_BITS);
+    CALL(&c, &reading, AES18_ACCEPTED);
+    EQUAL(c.bytes[ANSWER], end, sizeof end);
+    c.length[INPUT] = 0;
+    c.from = 0;
+    TOO_HIGH(&c, &reading, &c.to, 0, AES18_REFUSED_BITS);
+    c.length[ANSWER] = AES18_READ_ANSWER + 3;
+    memset(c.bytes[ANSWER], OLD, AES18_READ_ANSWER + 3);
+    CALL(&c, &reading, AES18_ACCEPTED);
+    EQUAL(c.bytes[ANSWER], end, sizeof end);
+    ALL(c.bytes[ANSWER] + AES18_READ_ANSWER, OLD, 3);
+    EQUAL(c.bytes[RECORD] + sizeof two_listed, no_receiver, AES18_RECEIVER_RECORD - sizeof two_listed);
+}
+
+/* Bytes of a record that are out of range: from `place` on those of `bytes`. */
+struct outside {
+    size_t place;
+    uint8_t bytes[4];
+    size_t length;
+};
+
+static const struct outside senders_outside[] = {
+    {0, {5}, 1}, {0, {255}, 1},                                     /* number of circuits */
+    {1, {0xFF}, 1}, {2, {2}, 1}, {3, {1}, 1}, {4, {0x01, 0, 0}, 3}, /* circuits that listing refuses */
+    {13, {8}, 1}, {21, {8}, 1}, {14, {4}, 1}, {15, {6}, 1},         /* index, priority, repetition */
+    {16, {1}, 1}, {24, {1}, 1},                                     /* copy above the repetition */
+    {17, {0xFF, 0x0F}, 2}, {19, {2}, 1}, {20, {1}, 1},              /* length, place past the message's end */
+    {45, {4}, 1},                                                   /* last served */
+};
+
+static const struct outside receivers_outside[] = {
+    {0, {5}, 1}, {0, {255}, 1},                                                /* number of circuits */
+    {1, {0xFF}, 1}, {2, {2}, 1}, {3, {1}, 1}, {4, {0x01, 0, 0}, 3},            /* circuits that listing refuses */
+    {13, {2}, 1}, {14, {8}, 1},                                                /* seen, last index */
+    {15, {0xFF, 0x0F}, 2}, {17, {1}, 1}, {18, {1}, 1}, {23, {1}, 1},           /* length, place past the message's end */
+    {37, {5}, 1}, {37, {1, 7}, 2}, {37, {3, 0, 170}, 3},                       /* phase, ones, count of the framing */
+    {37, {0, 1}, 2}, {37, {1, 0, 1}, 3}, {37, {2, 0, 1}, 3},                   /* ones or count not in this phase */
+    {37, {3, 0, 0, 1}, 4}, {37, {3, 0, 169, 1}, 4}, {60, {0x80}, 1},           /* a bit behind those counted */
+    {37, {4, 0, 5, 0x0F}, 4}, {37, {4, 0, 6, 0x3F}, 4}, {37, {4, 0, 4, 15}, 4}, /* no five ones before a zero that is behind five */
+};
+
+/* A function refuses these records, and accepts the record as it is listed. */
+static void test_outside(const struct function *list, const struct function *f, const struct outside *cases, size_t count)
+{
+    static struct call c;
+    size_t i;
+
+    c.circuit = c.priority = c.repetition = c.system = c.from = c.to = 0;
+    c.n = c.u = 256;
+    for (i = 0; i <= count; i++) {
+        prepare_listed(&c, list, f, two_circuits, sizeof two_circuits);
+        c.length[INPUT] = 0;
+        c.length[BLOCK] = 32;
+        if (i < count)
+            memcpy(c.bytes[RECORD] + cases[i].place, cases[i].bytes, cases[i].length);
+        CALL(&c, f, i < count ? AES18_REFUSED_RECORD : AES18_ACCEPTED);
+    }
+}
+
+/* Reads on to the next notice. */
+static void read_on(int line, struct call *c)
+{
+    const uint8_t *answer = c->bytes[ANSWER];
+
+    is(line, call(line, c, &reading), AES18_ACCEPTED);
+    c->from += number(answer + AES18_READ_BITS, 8);
+    noticed[answer[AES18_READ_NOTICE] % 6] = 1;
+    if (answer[AES18_READ_NOTICE] == AES18_NOTICE_CIRCUIT)
+        became[answer[AES18_READ_FATE] % 6] = 1;
+}
+
+#define READ_ON(c) read_on(__LINE__, c)
+
+/* The record of a sender, and of the receiver that reads its blocks, as a message of two packets with one repetition goes over. */
+static void test_records(void)
+{
+    static const uint8_t slots[][8] = {{0, 2, 1, 1, 20, 0, 0, 0}, {1, 2, 1, 0, 20, 0, 1, 0}, {2, 2, 1, 0, 20, 0, 2, 0}};
+    static const uint8_t heard[][6] = {{1, 0, 20, 0, 14, 0}, {1, 0, 20, 0, 14, 0}, {1, 1, 0, 0, 0, 0}};
+    static const uint8_t fate[] = {AES18_FATE_BEGUN, AES18_FATE_COPY, AES18_FATE_WHOLE};
+    static const uint8_t behind_flag[24] = {2};
+    static struct call s, r;
+    size_t i;
+
+    prepare_listed(&s, &list_sender, &block, two_circuits, sizeof two_circuits);
+    prepare_listed(&r, &list_receiver, &reading, two_circuits, sizeof two_circuits);
+    s.circuit = 1;
+    s.priority = 2;
+    s.repetition = 1;
+    s.length[INPUT] = 20;
+    CALL(&s, &offer, AES18_ACCEPTED);
+    s.n = s.u = r.to = 256;
+    s.system = 0;
+    s.length[BLOCK] = 32;
+    for (i = 0; i < 3; i++) {
+        CALL(&s, &block, AES18_ACCEPTED);
+        EQUAL(s.bytes[RECORD] + 21, slots[i], sizeof slots[i]);
+        IS(s.bytes[RECORD][45], 1);
+        IS(number(s.bytes[ANSWER] + AES18_BLOCK_PLACED, 4), i == 2 ? 2 : 1);
+        put(&r, INPUT, s.bytes[BLOCK], 32);
+        r.from = 0;
+        READ_ON(&r);
+        IS(r.bytes[ANSWER][AES18_READ_CIRCUIT], 1);
+        IS(r.bytes[ANSWER][AES18_READ_FATE], fate[i]);
+        EQUAL(r.bytes[RECORD] + 19, heard[i], sizeof heard[i]);
+        EQUAL(r.bytes[RECORD] + 37, behind_flag, sizeof behind_flag);
+        while (r.bytes[ANSWER][AES18_READ_NOTICE] != AES18_NOTICE_END)
+            READ_ON(&r);
+        ALL(r.bytes[RECORD] + 37, 0, 24);
+    }
+    CALL(&s, &block, AES18_ACCEPTED);
+    IS(number(s.bytes[ANSWER] + AES18_BLOCK_USED, 4), 8);
+}
+
+/* The framing after so many bits of a flag, five ones and three zeros. */
+static void test_framing(void)
+{
+    static const uint8_t bits[] = {0x7E, 0x1F};
+    static const struct {
+        uint64_t bits;
+        uint8_t framing[4];
+    } cases[] = {
+        {0, {0, 0, 0, 0}},  {1, {1, 0, 0, 0}},     {4, {1, 3, 0, 0}},     {7, {1, 6, 0, 0}},     {8, {2, 0, 0, 0}},
+        {13, {2, 5, 0, 0}}, {14, {4, 0, 5, 0x1F}}, {15, {3, 0, 5, 0x1F}}, {16, {3, 0, 6, 0x1F}},
+    };
+    static struct call c;
+    size_t i;
+
+    for (i = 0; i < COUNT(cases); i++) {
+        prepare_listed(&c, &list_receiver, &reading, two_circuits, sizeof two_circuits);
+        put(&c, INPUT, bits, sizeof bits);
+        c.from = 0;
+        c.to = cases[i].bits;
+        READ_ON(&c);
+        IS(c.from, c.to);
+        EQUAL(c.bytes[RECORD] + 37, cases[i].framing, 4);
+        ALL(c.bytes[RECORD] + 41, 0, 20);
+    }
+}
+
+/*
+ * Frames with a flag before and behind each, made from document 01 by other code. Their packets, in base 16: FF 00 00; 09 80 00; FF C5 32 68 69;
+ * 01 80 05; 01 44 41; 02 AC 07 10 2E and 14 bytes; 02 30 07 and 16; 02 74 07 and 16; the same again; 01 8C 00; and the same with a bit turned over.
+ * The 46 bytes are the alphabet, again and again.
+ */
+static const uint8_t frames[] = {
+    0x7E, 0xDF, 0x01, 0x00, 0xBE, 0x00, 0xF8, 0x25, 0x00, 0x02, 0x78, 0x58, 0xFB, 0x7D, 0x2F, 0x96, 0x41, 0x4B, 0x3B, 0x4F, 0xF0, 0x0B, 0x00,
+    0x2C, 0x88, 0x3B, 0xF2, 0x0B, 0x20, 0x0A, 0xDA, 0x74, 0xF7, 0x13, 0x60, 0x3D, 0x80, 0x70, 0x09, 0x13, 0x1B, 0x23, 0x2B, 0x33, 0x3B, 0x43,
+    0x4B, 0x53, 0x5B, 0x63, 0x6B, 0x73, 0x13, 0x40, 0xF4, 0x13, 0x80, 0x39, 0x78, 0x83, 0x8B, 0x93, 0x9B, 0xA3, 0xAB, 0xB3, 0xBB, 0xC3, 0xCB,
+    0xD3, 0x0B, 0x13, 0x1B, 0x23, 0x2B, 0xE2, 0xF4, 0x13, 0xA0, 0x3B, 0x28, 0x33, 0x3B, 0x43, 0x4B, 0x53, 0x5B, 0x63, 0x6B, 0x73, 0x7B, 0x83,
+    0x8B, 0x93, 0x9B, 0xA3, 0x93, 0xB9, 0xF3, 0x13, 0xA0, 0x3B, 0x28, 0x33, 0x3B, 0x43, 0x4B, 0x53, 0x5B, 0x63, 0x6B, 0x73, 0x7B, 0x83, 0x8B,
+    0x93, 0x9B, 0xA3, 0x93, 0xB9, 0xF3, 0x0B, 0x60, 0x04, 0xE0, 0x93, 0xEB, 0x97, 0xC0, 0x08, 0xC0, 0x27, 0xD7, 0xEF,
+};
+
+/* What reading them answers: every notice and every fate. */
+static const uint8_t answers[][AES18_READ_ANSWER] = {
+    {AES18_NOTICE_MALFORMED, 0, 0, 0, 0, 0, 0, 0, 58},
+    {AES18_NOTICE_ELSEWHERE, 0, 0, 0, 0, 0, 0, 0, 48},
+    {AES18_NOTICE_SYSTEM, 5, 3, 2, 0, 0, 0, 0, 65},
+    {AES18_NOTICE_CIRCUIT, 0, 0, AES18_FATE_WRONG, 0, 0, 0, 0, 48},
+    {AES18_NOTICE_CIRCUIT, 0, 0, AES18_FATE_ORPHAN, 0, 0, 0, 0, 48},
+    {AES18_NOTICE_CIRCUIT, 1, 0, AES18_FATE_BEGUN, 0, 0, 0, 0, 176},
+    {AES18_NOTICE_CIRCUIT, 1, 0, AES18_FATE_HELD, 0, 0, 0, 0, 176},
+    {AES18_NOTICE_CIRCUIT, 1, 0, AES18_FATE_WHOLE, 46, 0, 0, 0, 176},
+    {AES18_NOTICE_CIRCUIT, 1, 0, AES18_FATE_COPY, 0, 0, 0, 0, 176},
+    {AES18_NOTICE_CIRCUIT, 0, 1, AES18_FATE_WHOLE, 0, 0, 0, 0, 49},
+    {AES18_NOTICE_SPOILT, 0, 0, 0, 0, 0, 0, 0, 49},
+    {AES18_NOTICE_END, 0, 0, 0, 0, 0, 0, 0, 3},
+};
+
+static void test_notices(void)
+{
+    static struct call c;
+    size_t i;
+
+    prepare_listed(&c, &list_receiver, &reading, two_circuits, sizeof two_circuits);
+    put(&c, INPUT, frames, sizeof frames);
+    c.from = 0;
+    c.to = 8 * sizeof frames;
+    for (i = 0; i < COUNT(answers); i++) {
+        READ_ON(&c);
+        EQUAL(c.bytes[ANSWER], answers[i], sizeof answers[i]);
+    }
+    ALL(c.bytes[STORE], OLD, AES18_REGION);
+    for (i = 0; i < 46; i++)
+        IS(c.bytes[STORE][AES18_REGION + i], 'a' + i % 26);
+    ALL(c.bytes[STORE] + AES18_REGION + 46, OLD, AES18_SYSTEM_PLACE - AES18_REGION - 46);
+    EQUAL(c.bytes[STORE] + AES18_SYSTEM_PLACE, (const uint8_t *)"hi", 2);
+    ALL(c.bytes[STORE] + AES18_SYSTEM_PLACE + 2, OLD, 14);
+}
+
+static const uint8_t four_circuits[] = {0x01, 0, 0, 0x01, 1, 0, 0x7E, 1, 0xFF, 0xFE, 0, 0};
+static const size_t message_length[AES18_MOST_CIRCUITS] = {0, 15, 16, AES18_LONGEST_MESSAGE};
+
+/* Reads a block in parts of 100 bits and compares the messages handed over; how many they are. */
+static int read_block(struct call *r, const struct call *s)
+{
+    int whole = 0;
+
+    put(r, INPUT, s->bytes[BLOCK], s->length[BLOCK]);
+    r->from = 0;
+    while (r->from < s->n) {
+        r->to = r->from + 100 < s->n ? r->from + 100 : s->n;
+        READ_ON(r);
+        if (r->bytes[ANSWER][AES18_READ_NOTICE] == AES18_NOTICE_CIRCUIT && r->bytes[ANSWER][AES18_READ_FATE] == AES18_FATE_WHOLE) {
+            size_t c = r->bytes[ANSWER][AES18_READ_CIRCUIT];
+
+            IS(number(r->bytes[ANSWER] + AES18_READ_MESSAGE, 2), message_length[c]);
+            EQUAL(r->bytes[STORE] + AES18_REGION * c, s->bytes[STORE] + AES18_REGION * c, message_length[c]);
+            whole++;
+        }
+    }
+    return whole;
+}
+
+/* Messages of the shortest and longest lengths go over in blocks of n bits, the first of them with a system packet. */
+static void test_pass(uint64_t n)
+{
+    static struct call s, r;
+    int whole = 0;
+    size_t i;
+
+    prepare_listed(&s, &list_sender, &block, four_circuits, sizeof four_circuits);
+    prepare_listed(&r, &list_receiver, &reading, four_circuits, sizeof four_circuits);
+    IS(sizeof four_circuits, AES18_MOST_CIRCUITS * AES18_CIRCUIT_BYTES);
+    for (i = 0; i < AES18_LONGEST_MESSAGE; i++)
+        s.bytes[INPUT][i] = (uint8_t)(i * i % 257);
+    for (s.circuit = 0; s.circuit < AES18_MOST_CIRCUITS; s.circuit++) {
+        s.priority = AES18_HIGHEST_PRIORITY - s.circuit;
+        s.repetition = s.circuit == 3 ? 0 : AES18_MOST_REPETITIONS;
+        s.length[INPUT] = message_length[s.circuit];
+        CALL(&s, &offer, AES18_ACCEPTED);
+    }
+    s.n = s.u = n;
+    s.length[BLOCK] = (size_t)((n + 7) / 8);
+    s.system = 1;
+    s.enable = AES18_ALL_ENABLED;
+    s.code = AES18_HIGHEST_CODE;
+    s.length[INPUT] = AES18_LONGEST_INFORMATION;
+    do {
+        CALL(&s, &block, AES18_ACCEPTED);
+        whole += read_block(&r, &s);
+        s.system = 0;
+    } while (number(s.bytes[ANSWER] + AES18_BLOCK_PLACED, 4) > 0);
+    IS((uint64_t)whole, AES18_MOST_CIRCUITS);
+    EQUAL(r.bytes[STORE], s.bytes[STORE], AES18_SENDER_STORE);
+    EQUAL(r.bytes[STORE] + AES18_SYSTEM_PLACE, s.bytes[INPUT], AES18_LONGEST_INFORMATION);
+    IS(r.bytes[STORE][AES18_RECEIVER_STORE - 1], OLD);
+}
+
+/* All tests, with arrays of no bytes at a place. */
+static void test_all(uint8_t *place)
+{
+    nowhere = place;
+    test_listing(&list_sender, no_sender);
+    test_listing(&list_receiver, no_receiver);
+    test_offer();
+    test_block_refusals();
+    test_empty_block();
+    test_system();
+    test_read_refusals();
+    test_outside(&list_sender, &offer, senders_outside, COUNT(senders_outside));
+    test_outside(&list_sender, &block, senders_outside, COUNT(senders_outside));
+    test_outside(&list_receiver, &reading, receivers_outside, COUNT(receivers_outside));
+    test_records();
+    test_framing();
+    test_notices();
+    test_pass(AES18_FEWEST_BLOCK_BITS);
+    test_pass(1003);
+    test_pass(AES18_MOST_BLOCK_BITS);
+}
+
+int main(void)
+{
+    int i;
+
+    make_arenas();
+    test_all(NULL);
+    test_all(arenas[INPUT] + ARENA);
+    for (i = AES18_REFUSED_LIST; i <= AES18_REFUSED_BITS; i++)
+        IS((uint64_t)refused[i], 1);
+    IS((uint64_t)refused[AES18_REFUSED_SHORT], 1);
+    for (i = AES18_NOTICE_END; i <= AES18_NOTICE_CIRCUIT; i++)
+        IS((uint64_t)noticed[i], 1);
+    for (i = AES18_FATE_COPY; i <= AES18_FATE_WRONG; i++)
+        IS((uint64_t)became[i], 1);
+    return failures == 0 ? EXIT_SUCCESS : EXIT_FAILURE;
+}
