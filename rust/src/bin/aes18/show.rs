@@ -1,13 +1,160 @@
-//! `aes18 show`.
+//! `aes18 show`: a pass as a picture.
+
+mod extents;
+mod ink;
+mod layout;
+mod options;
+mod report;
+mod svg;
+mod tally;
+mod terminal;
+mod words;
+
+use std::ffi::OsStr;
+use std::fs;
+use std::io::{self, BufWriter, Write};
 
 use crate::args::Args;
+use crate::circuits;
+use crate::draft::Draft;
 use crate::error::Error;
+use crate::input::Input;
+use extents::Pass;
+use layout::Part;
+use options::Options;
+use svg::Svg;
+use tally::Tally;
+use terminal::Terminal;
 
 pub const HELP: &str = "\
-Usage: aes18 show
+Shows filed user bits as a picture, with what went wrong in them.
+
+Usage: aes18 show --circuits ADDR[:EXT],.. [OPTIONS] BITS
+
+BITS is a file of user bits, eight in a byte, the first in the lowest bit; - is the standard input.
+
+Options:
+  --circuits LIST    the circuits, one to four, in hex, such as 01,02:07; they are numbered from 0
+  --block N          a row for each block of N bits, 256 to 27000; without it rows of 1000 bits
+  --from BIT         show the bits from this one on
+  --to BIT           show the bits before this one
+  --svg FILE         write the picture as SVG to FILE; - is the standard output
+  --width COLUMNS    columns in the terminal, 40 to 1000; without it COLUMNS, or else 100
+  --color WHEN       always, never or auto: colours on a terminal, unless NO_COLOR is set
+  --all              list all places that went wrong, not just the first 40
+
+A row begins with its block's number, or that of its first bit. Each character behind it stands for
+as many bits as the first line says, and shows the most important of what lies in them:
+  !        a spoilt body
+  ^        packets lost before the frame that begins here: how many, the line below says
+  ~        bits in no frame: voided by seven ones, too few for one, or not between two flags
+  M        a malformed packet
+  0 to 3   a packet of the circuit of that number
+  S        a system packet
+  E        a packet of a circuit that is not listed
+  .        a flag
+  -        closing ones
+Behind a packet's first character = shows how far it goes, or x where it is an orphan or wrong.
+Rows that show no other frame than the row before them, and look like it, are only counted.
+
+Behind the picture stand the figures of each kind and the places that went wrong, with their bits: a
+body's bits are those between its flags. Bits and blocks are numbered from 0. With --from and --to the
+pass is still read from its first bit; figures and places are of what is shown. Up to seven zeros at
+the end, behind closing ones or a flag, are the last byte's spare bits and are not shown.
+
+With --svg the picture goes to FILE in place of the terminal; with - nothing but the picture is
+written. It says what a frame is when pointed at. A frame takes about 400 bytes in it, so that --from
+and --to are of use in a long pass.
 ";
 
 /// Runs the subcommand.
-pub fn run(_args: Args) -> Result<(), Error> {
-    Err(Error::Data("show is not written yet".to_string()))
+pub fn run(args: Args) -> Result<(), Error> {
+    let options = Options::parse(args)?;
+    match &options.svg {
+        None => show_in_terminal(&options),
+        Some(file) => write_svg(&options, file),
+    }
+}
+
+fn show_in_terminal(options: &Options) -> Result<(), Error> {
+    let failed = |error: io::Error| Error::stdout(&error);
+    let mut input = Input::open(&options.bits)?;
+    let out = BufWriter::new(io::stdout().lock());
+    let mut picture = Terminal::new(out, input.name().to_string(), options);
+    let tally = draw(options, &mut input, |part| {
+        picture.part(part).map_err(failed)
+    })?;
+    picture.end().map_err(failed)?;
+    report::write(&mut picture.out, options, &tally).map_err(failed)?;
+    picture.out.flush().map_err(failed)
+}
+
+fn write_svg(options: &Options, file: &OsStr) -> Result<(), Error> {
+    let mut input = Input::open(&options.bits)?;
+    if is_same_file(file, &options.bits) {
+        return Err(Error::Usage(
+            "--svg names the file of user bits".to_string(),
+        ));
+    }
+    let draft = Draft::new(file)?;
+    let name = draft.name();
+    let failed = |error: io::Error| Error::file(&name, &error);
+    let mut picture = Svg::new(draft, input.name(), options.words()).map_err(failed)?;
+    let tally = draw(options, &mut input, |part| {
+        picture.part(part).map_err(failed)
+    })?;
+    let start = picture.end(&tally).map_err(failed)?;
+    let length = picture.out.finish(&start)?;
+    match file == "-" {
+        true => Ok(()),
+        false => report_svg(options, &tally, &name, length),
+    }
+}
+
+/// Whether two names are of one file that exists.
+fn is_same_file(left: &OsStr, right: &OsStr) -> bool {
+    match (fs::canonicalize(left), fs::canonicalize(right)) {
+        (Ok(left), Ok(right)) => left == right,
+        _ => false,
+    }
+}
+
+/// Says what was written to a file, with its figures and places.
+fn report_svg(options: &Options, tally: &Tally, name: &str, length: u64) -> Result<(), Error> {
+    let failed = |error: io::Error| Error::stdout(&error);
+    let mut out = BufWriter::new(io::stdout().lock());
+    writeln!(out, "{name}: {length} bytes").map_err(failed)?;
+    report::write(&mut out, options, tally).map_err(failed)?;
+    out.flush().map_err(failed)
+}
+
+/// Reads the pass and hands over the parts to draw, row by row; answers the figures of what is shown.
+fn draw(
+    options: &Options,
+    input: &mut Input,
+    mut draw: impl FnMut(&Part<'_>) -> Result<(), Error>,
+) -> Result<Tally, Error> {
+    let layout = &options.layout;
+    let mut pass = Pass::new(circuits::receiver(&options.circuits)?);
+    let mut tally = Tally::default();
+    let mut ended = false;
+    while !ended {
+        let stretches = match input.chunk()? {
+            Some(bytes) => pass.read(bytes)?,
+            None => pass.end(),
+        };
+        for stretch in stretches.iter().filter(|stretch| layout.shows(stretch)) {
+            tally.add(stretch, options.places);
+            layout.parts(stretch).try_for_each(|part| draw(&part))?;
+        }
+        ended = pass.ended() || tally.end >= layout.to;
+    }
+    match tally.end == 0 && layout.from > 0 {
+        true => Err(Error::Data(format!(
+            "{}: ends before bit {}",
+            input.name(),
+            layout.from
+        ))),
+        false => Ok(tally),
+    }
 }

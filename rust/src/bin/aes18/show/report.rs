@@ -1,0 +1,96 @@
+//! The legend with its figures, and the list of the places that went wrong, as text.
+
+use std::io::{self, Write};
+
+use super::ink::Ink;
+use super::options::Options;
+use super::tally::{Packets, Tally};
+use super::terminal::Paint;
+use super::words::Words;
+
+/// Writes the legend and the list.
+pub fn write(out: &mut impl Write, options: &Options, tally: &Tally) -> io::Result<()> {
+    let (paint, words) = (options.paint, options.words());
+    circuits(out, paint, words, tally)?;
+    others(out, paint, tally)?;
+    marks(out, paint)?;
+    places(out, words, tally)
+}
+
+/// The listed circuits with the figures of their packets.
+fn circuits(out: &mut impl Write, paint: Paint, words: Words<'_>, tally: &Tally) -> io::Result<()> {
+    let columns = "  frames  copies   begun    held   whole  orphan   wrong    lost";
+    writeln!(out, "\n{:22}{columns}", "")?;
+    for (number, packets) in tally.circuits[..words.circuits.len()].iter().enumerate() {
+        let ink = Ink::Circuit { number, used: true };
+        entry(out, paint, ink, &words.circuit(number))?;
+        for figure in figures(packets) {
+            write!(out, "{figure:>8}")?;
+        }
+        writeln!(out)?;
+    }
+    Ok(())
+}
+
+/// A circuit's figures in the order of the legend's columns.
+fn figures(packets: &Packets) -> [u64; 8] {
+    [
+        packets.frames,
+        packets.copies,
+        packets.begun,
+        packets.held,
+        packets.whole,
+        packets.orphans,
+        packets.wrong,
+        packets.lost,
+    ]
+}
+
+/// The other kinds, each with its figure.
+fn others(out: &mut impl Write, paint: Paint, tally: &Tally) -> io::Result<()> {
+    for (ink, name, figure) in [
+        (Ink::System, "system packets", tally.system),
+        (Ink::Elsewhere, "elsewhere", tally.elsewhere),
+        (Ink::Malformed, "malformed", tally.malformed),
+        (Ink::Spoilt, "spoilt", tally.spoilt),
+        (Ink::Void, "bits in no frame", tally.void),
+        (Ink::Flag, "flags", tally.flags),
+        (Ink::Idle, "closing ones", tally.idle),
+    ] {
+        entry(out, paint, ink, name)?;
+        writeln!(out, "{figure:>8}")?;
+    }
+    Ok(())
+}
+
+/// A symbol of the picture and its meaning.
+fn entry(out: &mut impl Write, paint: Paint, ink: Ink, name: &str) -> io::Result<()> {
+    let symbol = paint.text(ink, &ink.symbol().to_string());
+    write!(out, "{symbol}  {name:19}")
+}
+
+/// The characters that stand for no kind.
+fn marks(out: &mut impl Write, paint: Paint) -> io::Result<()> {
+    let loss = paint.text(Ink::Loss, "^");
+    writeln!(
+        out,
+        "{loss}  packets lost before the frame that begins here\n\
+         =  the frame goes on; x where it is an orphan or wrong"
+    )
+}
+
+/// The places that went wrong.
+fn places(out: &mut impl Write, words: Words<'_>, tally: &Tally) -> io::Result<()> {
+    match tally.wrong {
+        0 => return writeln!(out, "\nNo place went wrong."),
+        1 => writeln!(out, "\n1 place went wrong:")?,
+        count => writeln!(out, "\n{count} places went wrong:")?,
+    }
+    for place in &tally.places {
+        writeln!(out, "  {}", words.stretch(place))?;
+    }
+    match tally.wrong - tally.places.len() {
+        0 => Ok(()),
+        more => writeln!(out, "  and {more} more (--all lists them)"),
+    }
+}

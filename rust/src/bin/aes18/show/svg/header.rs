@@ -1,0 +1,152 @@
+//! What stands between the title and the rows: which bits are shown, legend and scale.
+
+use std::io::{self, Write};
+
+use super::super::ink::Ink;
+use super::super::tally::{Packets, Tally};
+use super::super::words::Words;
+use super::{class, EDGE, LEFT, ROW, TOP};
+
+/// Where the legend's columns are.
+const COLUMNS: [f64; 3] = [EDGE, EDGE + 600.0, EDGE + 920.0];
+/// Where the legend's first line is, and from a line to the next.
+const LEGEND: usize = 66;
+const LINE: usize = 20;
+
+/// Writes the line below the title, legend and scale.
+pub fn write(out: &mut impl Write, words: Words<'_>, tally: &Tally) -> io::Result<()> {
+    extent(out, words, tally)?;
+    for (x, column) in COLUMNS.into_iter().zip(columns(words, tally)) {
+        for (line, (ink, text)) in column.iter().enumerate() {
+            entry(out, x, LEGEND + LINE * line, *ink, text)?;
+        }
+    }
+    scale(out, words)
+}
+
+/// Which bits are shown, in which rows.
+fn extent(out: &mut impl Write, words: Words<'_>, tally: &Tally) -> io::Result<()> {
+    let layout = words.layout;
+    let (from, to) = (layout.from, tally.end.min(layout.to));
+    let unit = match layout.blocks {
+        true => "blocks",
+        false => "rows",
+    };
+    let bits = match from < to {
+        true => format!("bits {from} to {}", to - 1),
+        false => "no bits".to_string(),
+    };
+    writeln!(
+        out,
+        r#"<text x="{EDGE}" y="50">{bits}, in {unit} of {} bits</text>"#,
+        layout.row
+    )
+}
+
+/// The legend's columns: the circuits, the other bodies, the rest.
+fn columns(words: Words<'_>, tally: &Tally) -> [Vec<(Ink, String)>; 3] {
+    let circuits = tally.circuits[..words.circuits.len()].iter().enumerate();
+    let circuits = circuits.map(|(number, packets)| {
+        let text = format!("{}: {}", words.circuit(number), figures(packets));
+        (Ink::Circuit { number, used: true }, text)
+    });
+    [
+        circuits.collect(),
+        vec![
+            (Ink::System, format!("system packets: {}", tally.system)),
+            (
+                Ink::Elsewhere,
+                format!("packets of circuits not listed: {}", tally.elsewhere),
+            ),
+            (
+                Ink::Malformed,
+                format!("malformed packets: {}", tally.malformed),
+            ),
+            (Ink::Spoilt, format!("spoilt: {}", tally.spoilt)),
+            (Ink::Void, format!("bits in no frame: {}", tally.void)),
+        ],
+        vec![
+            (Ink::Flag, format!("flags: {}", tally.flags)),
+            (Ink::Idle, format!("closing ones: {}", tally.idle)),
+            (Ink::Loss, "packets lost before the frame below".to_string()),
+            (
+                Ink::Circuit {
+                    number: 0,
+                    used: false,
+                },
+                "orphan or wrong, of any circuit".to_string(),
+            ),
+        ],
+    ]
+}
+
+/// A circuit's figures, as far as they are not 0.
+fn figures(packets: &Packets) -> String {
+    let figures = [
+        (packets.copies, "copies"),
+        (packets.whole, "whole"),
+        (packets.orphans, "orphan"),
+        (packets.wrong, "wrong"),
+        (packets.lost, "lost"),
+    ];
+    let mut text = format!("frames {}", packets.frames);
+    for (figure, name) in figures.iter().filter(|(figure, _)| *figure > 0) {
+        text.push_str(&format!(", {name} {figure}"));
+    }
+    text
+}
+
+/// A swatch and its meaning.
+fn entry(out: &mut impl Write, x: f64, y: usize, ink: Ink, text: &str) -> io::Result<()> {
+    match ink {
+        Ink::Loss => write!(
+            out,
+            r#"<path class="loss" d="M{} {}h8l-4 8z"/>"#,
+            x + 3.0,
+            y + 3
+        )?,
+        Ink::Idle => write!(
+            out,
+            r#"<rect class="idle" x="{x}" y="{}" width="14" height="4"/>"#,
+            y + 5
+        )?,
+        _ => write!(
+            out,
+            r#"<rect class="{}" x="{x}" y="{y}" width="14" height="14" rx="1"/>"#,
+            class(ink)
+        )?,
+    }
+    writeln!(
+        out,
+        r#"<text x="{}" y="{}">{text}</text>"#,
+        x + 22.0,
+        y + 11
+    )
+}
+
+/// The numbers of a row's bits, counted from its start, above the first row.
+fn scale(out: &mut impl Write, words: Words<'_>) -> io::Result<()> {
+    let row = words.layout.row;
+    let steps = [25, 50, 100, 250, 500, 1000];
+    let step = steps.into_iter().find(|step| row / step <= 12);
+    let y = TOP - 8;
+    let unit = match words.layout.blocks {
+        true => "block",
+        false => "bit",
+    };
+    writeln!(
+        out,
+        r#"<text class="label" x="{}" y="{}">{unit}</text>"#,
+        LEFT - 8.0,
+        y + 8
+    )?;
+    for bit in (0..=row).step_by(step.unwrap_or(2500) as usize) {
+        let x = LEFT + ROW * bit as f64 / row as f64;
+        writeln!(
+            out,
+            r#"<path class="scale" d="M{x:.2} {y}v6"/><text class="tick" x="{x:.2}" y="{}">{bit}</text>"#,
+            y - 4
+        )?;
+    }
+    Ok(())
+}
