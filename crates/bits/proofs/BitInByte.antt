@@ -70,7 +70,7 @@ withDigit-lt (suc j) (suc k) n d h l e =
     rw pow-suc (omega arith)
 
 -- a bit as the code's number
-boolByte-bitValue : (x : Bool) → boolByte x ≡ bitValue x
+pub boolByte-bitValue : (x : Bool) → boolByte x ≡ bitValue x
 unfolding bitValue
 boolByte-bitValue true = refl
 boolByte-bitValue false = refl

@@ -1,19 +1,10 @@
 -- `layout::receiving::slot_bytes` meets its contract, byte by byte.
-use mathlib.Core.Path.{_≡_, refl}
-use mathlib.Core.Bool.{Bool, true, false}
-use mir.Val.{boolByte}
 use borrow.Author.Needs.{needs}
-use Rattle.bits.specs.Bits.{bitValue}
+use Rattle.bits.proofs.BitInByte.{boolByte-bitValue}
 use Rattle.layout.specs.Layout.{lowBytes}
 use Rattle.layout.specs.ReceiverBytes.{slotBytes}
 use Rattle.layout.proofs.receiving.slot_bytes.Statement.{statement}
 use Rattle.layout.proofs.receiving.slot_bytes.Tie as tie
-
--- a bool as a byte
-boolByte-bitValue : (b : Bool) → boolByte b ≡ bitValue b
-unfolding bitValue
-boolByte-bitValue true = refl
-boolByte-bitValue false = refl
 
 cast-length : tie.Need-cast-length
 cast-length c = search needs
