@@ -1,16 +1,42 @@
-/* The functions that the benchmark compares: of the proved crate `bench`, and their plain counterparts. */
+/* What the benchmark calls in C: the channel in plain C (plain.c), and the depth of a call on the stack (stack.c). */
+#ifndef AES18_BENCH_H
+#define AES18_BENCH_H
+
 #include <stddef.h>
 #include <stdint.h>
 
-size_t bench_write(uint8_t *buf, size_t len, const uint8_t *packets, size_t packets_len, size_t size);
-uint64_t bench_scan(const uint8_t *bytes, size_t len, size_t from, size_t to);
-uint64_t bench_blocks(uint8_t *buf, size_t len, uint8_t *store, size_t store_len, const uint8_t *message, size_t message_len, size_t n);
-size_t bench_channel(uint8_t *buf, size_t len, uint8_t *store, size_t store_len, const uint8_t *source, size_t source_len);
-uint64_t bench_read(const uint8_t *bytes, size_t len, size_t from, size_t to, uint8_t *store, size_t store_len);
-uint64_t bench_refused(const uint8_t *bytes, size_t len, uint8_t *store, size_t store_len, size_t n);
-uint64_t bench_in_range(size_t n);
+/* The records. Each call answers 0 or the number of document 01's refusal, as the library's do. */
+struct plain_sender;
+struct plain_receiver;
+extern const size_t plain_sender_size, plain_receiver_size;
 
-size_t plain_write(uint8_t *buf, size_t len, const uint8_t *packets, size_t packets_len, size_t size);
-uint64_t plain_scan(const uint8_t *bytes, size_t len, size_t from, size_t to);
-uint64_t plain_blocks(uint8_t *buf, size_t len, const uint8_t *message, size_t message_len, size_t n);
-uint64_t plain_read(const uint8_t *bytes, size_t len, size_t from, size_t to, uint8_t *store, size_t store_len);
+/* The answers. On a little-endian machine their bytes are those of the library's answers; `none` is 0. */
+struct plain_block {
+    uint32_t placed, used;
+};
+struct plain_read {
+    uint8_t notice, number_or_enable, loss_or_code, fate_or_information;
+    uint16_t length, none;
+    uint64_t bits;
+};
+
+/* A system packet; a block call is given a null pointer where none is wanted. */
+struct plain_system {
+    uint64_t enable, code;
+    const uint8_t *info;
+    size_t info_len;
+};
+
+uint32_t plain_sender_list(struct plain_sender *s, const uint8_t *list, size_t list_len);
+uint32_t plain_sender_offer(struct plain_sender *s, uint8_t *store, size_t store_len, uint64_t circuit, uint64_t priority,
+                            uint64_t repetition, const uint8_t *message, size_t message_len);
+uint32_t plain_sender_block(struct plain_sender *s, const uint8_t *store, size_t store_len, uint64_t n, uint64_t u,
+                            const struct plain_system *system, uint8_t *block, size_t block_len, struct plain_block *answer);
+uint32_t plain_receiver_list(struct plain_receiver *r, const uint8_t *list, size_t list_len);
+uint32_t plain_receiver_read(struct plain_receiver *r, uint8_t *store, size_t store_len, const uint8_t *bits, size_t bits_len,
+                             uint64_t from, uint64_t to, struct plain_read *answer);
+
+/* How many bytes of a stack of its own `call` touches. */
+size_t stack_depth(void (*call)(void *), void *given);
+
+#endif

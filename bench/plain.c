@@ -1,478 +1,559 @@
-/* Plain bit-by-bit counterparts of the frame writer, the bit scan, block making and reading, as a firmware would have them. */
+/* The channel in plain C, bit by bit, as a firmware would have it. A record is a struct; each call checks it as refusal 14 asks, but takes any
+   framing as it is. */
 #include "bench.h"
 #include <string.h>
 
-static uint16_t fcs_bit(uint16_t r, unsigned bit)
-{
-    unsigned feedback = (r ^ bit) & 1;
-    r >>= 1;
-    return feedback ? r ^ 0x8408 : r;
-}
+enum { CIRCUITS = 4, REGION = 4096, SYSTEM_PLACE = CIRCUITS * REGION, LONGEST = 4094, SEGMENT = 16 };
+enum { SENDER_STORE = CIRCUITS * REGION, RECEIVER_STORE = SYSTEM_PLACE + 16 };
+enum { FLAG = 0x7e, SYSTEM_ADDRESS = 0xff, FCS_PRESET = 0xffff, FCS_GOOD = 0xf0b8 };
+enum link { BETWEEN, LAST, FIRST, SYSTEM_LINK };
 
-static void put_bit(uint8_t *buf, size_t at, unsigned bit)
-{
-    if (bit)
-        buf[at / 8] |= (uint8_t)(1u << (at % 8));
-    else
-        buf[at / 8] &= (uint8_t)~(1u << (at % 8));
-}
+/* ---- both ends: circuits and the FCS */
 
-static size_t put_byte(uint8_t *buf, size_t at, unsigned *run, uint8_t byte)
-{
-    for (int k = 0; k < 8; k++) {
-        unsigned bit = (byte >> k) & 1;
-        put_bit(buf, at++, bit);
-        *run = bit ? *run + 1 : 0;
-        if (*run == 5) {
-            put_bit(buf, at++, 0);
-            *run = 0;
-        }
-    }
-    return at;
-}
-
-static size_t put_flag(uint8_t *buf, size_t at)
-{
-    for (int k = 0; k < 8; k++)
-        put_bit(buf, at++, (0x7e >> k) & 1);
-    return at;
-}
-
-size_t plain_write(uint8_t *buf, size_t len, const uint8_t *packets, size_t packets_len, size_t size)
-{
-    size_t at = put_flag(buf, 0);
-    for (size_t p = 0; p + size <= packets_len; p += size) {
-        unsigned run = 0;
-        uint16_t fcs = 0xffff;
-        if (at + 256 > 8 * len)
-            break;
-        for (size_t i = 0; i < size; i++) {
-            for (int k = 0; k < 8; k++)
-                fcs = fcs_bit(fcs, (packets[p + i] >> k) & 1);
-            at = put_byte(buf, at, &run, packets[p + i]);
-        }
-        fcs = (uint16_t)~fcs;
-        at = put_byte(buf, at, &run, fcs & 255);
-        at = put_byte(buf, at, &run, fcs >> 8);
-        at = put_flag(buf, at);
-    }
-    return at;
-}
-
-static int passes(const uint8_t *body, size_t count)
-{
-    uint16_t fcs = 0xffff;
-    size_t n = count / 8;
-    if (count % 8 || count < 32 || count > 168)
-        return 0;
-    for (size_t i = 0; i + 2 < n; i++)
-        for (int k = 0; k < 8; k++)
-            fcs = fcs_bit(fcs, (body[i] >> k) & 1);
-    fcs = (uint16_t)~fcs;
-    return body[n - 2] == (fcs & 255) && body[n - 1] == fcs >> 8;
-}
-
-/* What a reader keeps between two bits. */
-struct framing {
-    uint8_t body[32];
-    size_t count;
-    unsigned ones;
-    int zero, inside, five;
+struct circuit {
+    uint8_t address, extended, extension;
 };
 
-/* The bits from *at to `to` are read up to the first body that passes or is spoilt: the length of its packet, which then stands
-   at the body's start, or -1 for a spoilt one; 0 if there is none. The bits of a body are appended as they come; the closing
-   flag's first ones are taken back. */
-static int next_body(struct framing *f, const uint8_t *bytes, size_t *at, size_t to)
+struct circuits {
+    uint8_t count;
+    struct circuit list[CIRCUITS];
+};
+
+static int same(const struct circuit *a, const struct circuit *b)
 {
-    uint8_t *body = f->body;
-    size_t count = f->count, i = *at;
-    unsigned ones = f->ones;
-    int zero = f->zero, inside = f->inside, five = f->five, found = 0;
-    while (i < to) {
-        unsigned bit = (bytes[i / 8] >> (i % 8)) & 1;
-        i++;
-        if (bit) {
-            if (++ones == 7) {
-                inside = 0;
-                zero = 0;
-            } else if (inside && ones < 6 && count < 176) {
-                if (count % 8 == 0)
-                    body[count / 8] = 0;
-                body[count / 8] |= (uint8_t)(1u << (count % 8));
-                count++;
-            } else if (inside && ones < 6) {
-                count = 200;
-            }
-            continue;
+    return a->address == b->address && a->extended == b->extended && a->extension == b->extension;
+}
+
+/* The refusal of circuit i beside those before it, or 0. */
+static uint32_t circuit_refusal(const struct circuit *list, unsigned i)
+{
+    if (list[i].address == SYSTEM_ADDRESS)
+        return 2;
+    if (list[i].extended > 1 || (!list[i].extended && list[i].extension))
+        return 3;
+    for (unsigned j = 0; j < i; j++)
+        if (same(&list[j], &list[i]))
+            return 4;
+    return 0;
+}
+
+/* The lowest refusal of all circuits, or 0. */
+static uint32_t circuits_refusal(const struct circuits *c)
+{
+    uint32_t lowest = 0;
+    for (unsigned i = 0; i < c->count; i++) {
+        uint32_t refusal = circuit_refusal(c->list, i);
+        if (refusal && (!lowest || refusal < lowest))
+            lowest = refusal;
+    }
+    return lowest;
+}
+
+static uint32_t list_circuits(struct circuits *c, const uint8_t *list, size_t len)
+{
+    uint32_t refusal;
+    memset(c, 0, sizeof *c);
+    if (len == 0 || len > 3 * CIRCUITS || len % 3)
+        return 1;
+    for (size_t i = 0; i < len; i += 3)
+        c->list[c->count++] = (struct circuit){list[i], list[i + 1], list[i + 2]};
+    refusal = circuits_refusal(c);
+    if (refusal)
+        memset(c, 0, sizeof *c);
+    return refusal;
+}
+
+static int circuits_in_range(const struct circuits *c)
+{
+    return c->count <= CIRCUITS && !circuits_refusal(c);
+}
+
+static inline uint16_t fcs_bit(uint16_t fcs, unsigned bit)
+{
+    return (uint16_t)(fcs >> 1 ^ ((fcs ^ bit) & 1 ? 0x8408 : 0));
+}
+
+/* ---- sending: bits put into a block */
+
+/* `at` is the next bit's number, and `last` holds the eight bits put last, the newest highest. Bytes from `room` on are not written. */
+struct pen {
+    uint8_t *block;
+    size_t at, room;
+    unsigned last, ones;
+    uint16_t fcs;
+};
+
+static inline void put_bit(struct pen *p, unsigned bit)
+{
+    p->last = p->last >> 1 | bit << 7;
+    if (++p->at % 8 == 0 && p->at / 8 <= p->room)
+        p->block[p->at / 8 - 1] = (uint8_t)p->last;
+}
+
+static void put_flag(struct pen *p)
+{
+    for (int k = 0; k < 8; k++)
+        put_bit(p, FLAG >> k & 1);
+}
+
+/* The ones are counted without a branch, which would be taken as often as not. */
+static inline void put_stuffed(struct pen *p, unsigned bit)
+{
+    p->fcs = fcs_bit(p->fcs, bit);
+    put_bit(p, bit);
+    p->ones = bit * (p->ones + 1);
+    if (p->ones == 5) {
+        put_bit(p, 0);
+        p->ones = 0;
+    }
+}
+
+/* The pen is a local copy here, so that its fields need not be read again after each byte written. */
+static void put_bytes(struct pen *pen, const uint8_t *bytes, size_t n)
+{
+    struct pen p = *pen;
+    for (size_t i = 0; i < n; i++)
+        for (int k = 0; k < 8; k++)
+            put_stuffed(&p, bytes[i] >> k & 1);
+    *pen = p;
+}
+
+/* A frame and the flag behind it; its packet is a head and a part of a message. */
+static void put_frame(struct pen *p, const uint8_t *head, size_t head_len, const uint8_t *part, size_t part_len)
+{
+    uint8_t fcs[2];
+    p->ones = 0;
+    p->fcs = FCS_PRESET;
+    put_bytes(p, head, head_len);
+    put_bytes(p, part, part_len);
+    fcs[0] = (uint8_t)(~p->fcs & 0xff);
+    fcs[1] = (uint8_t)(~p->fcs >> 8 & 0xff);
+    put_bytes(p, fcs, 2);
+    put_flag(p);
+}
+
+/* Ones up to bit n, and zeros in what is left of its byte. */
+static void put_rest(struct pen *p, size_t n)
+{
+    while (p->at < n && p->at % 8)
+        put_bit(p, 1);
+    if (p->at < n) {
+        memset(p->block + p->at / 8, 0xff, n / 8 - p->at / 8);
+        p->at = n / 8 * 8;
+    }
+    while (p->at < n)
+        put_bit(p, 1);
+    while (p->at % 8)
+        put_bit(p, 0);
+}
+
+/* ---- sending: the calls */
+
+/* `place` counts the packets of the last message of which every copy is placed, `copy` the copies placed of the next one. */
+struct sending {
+    uint8_t index, priority, repetition, copy;
+    uint16_t length, place;
+};
+
+struct plain_sender {
+    struct circuits circuits;
+    struct sending slots[CIRCUITS];
+    uint8_t last_served;
+};
+
+const size_t plain_sender_size = sizeof(struct plain_sender);
+
+static unsigned header_length(unsigned length)
+{
+    return length > 15 ? 2 : 1;
+}
+
+static unsigned packets(unsigned length)
+{
+    return (header_length(length) + length + SEGMENT - 1) / SEGMENT;
+}
+
+static int pending(const struct sending *t)
+{
+    return t->place < packets(t->length);
+}
+
+static int sender_in_range(const struct plain_sender *s)
+{
+    if (!circuits_in_range(&s->circuits) || s->last_served >= CIRCUITS)
+        return 0;
+    for (unsigned i = 0; i < s->circuits.count; i++) {
+        const struct sending *t = &s->slots[i];
+        if (t->index > 7 || t->priority > 3 || t->repetition > 5 || t->copy > t->repetition || t->length > LONGEST
+            || t->place > packets(t->length))
+            return 0;
+    }
+    return 1;
+}
+
+/* The next packet of a circuit: address, control, extension, header, and a part of the message. */
+static void put_packet(struct pen *p, const struct circuit *c, const struct sending *t, const uint8_t *message)
+{
+    unsigned header = header_length(t->length), from = 0, part = SEGMENT, n = 2;
+    enum link link = t->place == 0 ? FIRST : t->place + 1u == packets(t->length) ? LAST : BETWEEN;
+    uint8_t head[5] = {c->address, (uint8_t)(link << 6 | c->extended << 5 | t->index << 2 | t->priority)};
+    if (c->extended)
+        head[n++] = c->extension;
+    if (link == FIRST) {
+        if (header == 2)
+            head[n++] = (uint8_t)(0x10 | t->length >> 8);
+        head[n++] = (uint8_t)(t->length & 0xff);
+        part -= header;
+    } else {
+        from = SEGMENT * t->place - header;
+    }
+    if (part > t->length - from)
+        part = t->length - from;
+    put_frame(p, head, n, message + from, part);
+}
+
+/* The circuit of the next frame, or -1. */
+static int pick(const struct plain_sender *s, unsigned enable)
+{
+    int picked = -1;
+    for (unsigned step = 1; step <= CIRCUITS; step++) {
+        unsigned i = (s->last_served + step) % CIRCUITS;
+        const struct sending *t = &s->slots[i];
+        if (i < s->circuits.count && pending(t) && enable >> t->priority & 1
+            && (picked < 0 || t->priority > s->slots[picked].priority))
+            picked = (int)i;
+    }
+    return picked;
+}
+
+static void serve(struct plain_sender *s, int i)
+{
+    struct sending *t = &s->slots[i];
+    s->last_served = (uint8_t)i;
+    if (t->copy < t->repetition) {
+        t->copy++;
+        return;
+    }
+    t->copy = 0;
+    t->place++;
+    t->index = (uint8_t)((t->index + 1) % 8);
+}
+
+/* Frames up to bit u: how many. The one that passes u is taken back. */
+static uint32_t fill(struct plain_sender *s, const uint8_t *store, struct pen *p, size_t u, unsigned enable)
+{
+    uint32_t placed = 0;
+    int i;
+    while ((i = pick(s, enable)) >= 0) {
+        struct pen before = *p;
+        put_packet(p, &s->circuits.list[i], &s->slots[i], store + REGION * i);
+        if (p->at > u) {
+            *p = before;
+            break;
         }
-        if (zero && ones == 6) {
-            size_t held = five ? 5 : 6;
-            if (inside && !five && count >= 6 + 32 && count <= 6 + 168 && passes(body, count - 6))
-                found = (int)(count - 6) / 8 - 2;
-            else if (inside && count >= held + 32)
-                found = -1;
+        serve(s, i);
+        placed++;
+    }
+    return placed;
+}
+
+uint32_t plain_sender_list(struct plain_sender *s, const uint8_t *list, size_t list_len)
+{
+    memset(s->slots, 0, sizeof s->slots);
+    for (int i = 0; i < CIRCUITS; i++)
+        s->slots[i].place = 1;
+    s->last_served = CIRCUITS - 1;
+    return list_circuits(&s->circuits, list, list_len);
+}
+
+uint32_t plain_sender_offer(struct plain_sender *s, uint8_t *store, size_t store_len, uint64_t circuit, uint64_t priority,
+                            uint64_t repetition, const uint8_t *message, size_t message_len)
+{
+    struct sending *t;
+    if (!sender_in_range(s))
+        return 14;
+    if (store_len < SENDER_STORE)
+        return 5;
+    if (circuit >= s->circuits.count)
+        return 6;
+    if (priority > 3)
+        return 7;
+    if (repetition > 5)
+        return 8;
+    if (message_len > LONGEST)
+        return 9;
+    t = &s->slots[circuit];
+    if (pending(t))
+        return 10;
+    *t = (struct sending){t->index, (uint8_t)priority, (uint8_t)repetition, 0, (uint16_t)message_len, 0};
+    if (message_len)
+        memcpy(store + REGION * circuit, message, message_len);
+    return 0;
+}
+
+static uint32_t block_refusal(const struct plain_sender *s, size_t store_len, uint64_t n, uint64_t u,
+                              const struct plain_system *system, size_t block_len)
+{
+    if (!sender_in_range(s))
+        return 14;
+    if (store_len < SENDER_STORE)
+        return 5;
+    if (n < 256 || n > 27000 || u < 256 || u > n)
+        return 11;
+    if (block_len < (n + 7) / 8)
+        return 12;
+    if (system && (system->enable > 15 || system->code > 8 || system->info_len > 15))
+        return 13;
+    return 0;
+}
+
+uint32_t plain_sender_block(struct plain_sender *s, const uint8_t *store, size_t store_len, uint64_t n, uint64_t u,
+                            const struct plain_system *system, uint8_t *block, size_t block_len, struct plain_block *answer)
+{
+    struct pen p = {block, 0, (n + 7) / 8, 0, 0, 0};
+    uint32_t refusal = block_refusal(s, store_len, n, u, system, block_len);
+    if (refusal)
+        return refusal;
+    put_flag(&p);
+    if (system) {
+        uint8_t head[3] = {SYSTEM_ADDRESS, (uint8_t)(SYSTEM_LINK << 6 | system->enable),
+                           (uint8_t)(system->code << 4 | system->info_len)};
+        put_frame(&p, head, 3, system->info, system->info_len);
+    }
+    answer->placed = fill(s, store, &p, u, system ? (unsigned)system->enable : 15);
+    answer->used = (uint32_t)p.at;
+    put_rest(&p, n);
+    return 0;
+}
+
+/* ---- reading: bodies between flags */
+
+/* The bits kept of a body: one more byte than the longest that passes has, as the closing flag's first bits are kept too. */
+enum { LEAST = 32, MOST = 168, KEPT = MOST + 8 };
+
+/* `window` holds the last 16 bits, the newest highest, and ones before the first bit; `last` the last eight bits of a body. */
+struct framing {
+    uint16_t window;
+    uint8_t inside, count, last;
+    uint8_t body[KEPT / 8];
+};
+
+static int passes(const uint8_t *body, unsigned bits)
+{
+    uint16_t fcs = FCS_PRESET;
+    if (bits % 8 || bits > MOST)
+        return 0;
+    for (unsigned i = 0; i < bits; i++)
+        fcs = fcs_bit(fcs, body[i / 8] >> (i % 8) & 1);
+    return fcs == FCS_GOOD;
+}
+
+/* What the body before a flag gives: the length of its packet, -1 if it is spoilt, or 0. Seven bits of the flag were kept with it, or six where
+   the flag's first 0 stands behind five ones and was dropped. */
+static int judged(const uint8_t *body, unsigned count, unsigned window)
+{
+    int five_ones = (window & 0xf8) == 0xf8;
+    unsigned kept = five_ones ? 6 : 7;
+    if (count < kept + LEAST)
+        return 0;
+    if (five_ones || !passes(body, count - kept))
+        return -1;
+    return (int)(count - kept) / 8 - 2;
+}
+
+/* Reads the bits from *at to `to` up to the first body that gives something. A bit behind six ones ends a flag or voids the body; of the others
+   those in a body are kept, except a 0 behind five ones. */
+static int next_body(struct framing *f, const uint8_t *bits, uint64_t *at, uint64_t to)
+{
+    unsigned window = f->window, inside = f->inside, count = f->count, last = f->last;
+    uint64_t i = *at;
+    int found = 0;
+    while (i < to) {
+        unsigned bit = bits[i / 8] >> (i % 8) & 1;
+        i++;
+        window = window >> 1 | bit << 15;
+        if ((window >> 9 & 0x3f) != 0x3f) {
+            if (inside && window >> 10 != 0x1f && count < KEPT) {
+                last = last >> 1 | bit << 7;
+                if (++count % 8 == 0)
+                    f->body[count / 8 - 1] = (uint8_t)last;
+            }
+        } else if (bit) {
+            inside = 0;
+        } else if (window >> 8 == FLAG) {
+            found = inside ? judged(f->body, count, window) : 0;
             inside = 1;
             count = 0;
-            five = 0;
-            if (found) {
-                ones = 0;
+            if (found)
                 break;
-            }
-        } else if (ones == 5) {
-            five = 1;
-        } else {
-            five = 0;
-            if (inside && count < 176) {
-                if (count % 8 == 0)
-                    body[count / 8] = 0;
-                count++;
-            } else if (inside) {
-                count = 200;
-            }
         }
-        zero = 1;
-        ones = 0;
     }
-    f->count = count;
-    f->ones = ones;
-    f->zero = zero;
-    f->inside = inside;
-    f->five = five;
+    f->window = (uint16_t)window;
+    f->inside = (uint8_t)inside;
+    f->count = (uint8_t)count;
+    f->last = (uint8_t)last;
     *at = i;
     return found;
 }
 
-uint64_t plain_scan(const uint8_t *bytes, size_t len, size_t from, size_t to)
-{
-    struct framing f = {0};
-    uint64_t sum = 0;
-    (void)len;
-    while (from < to) {
-        int n = next_body(&f, bytes, &from, to);
-        if (n > 0)
-            sum += 1 + f.body[0] + f.body[n - 1];
-    }
-    return sum;
-}
+/* ---- reading: notices */
 
-/* ---- blocks: four circuits, one message each, made into blocks of n bits until nothing waits */
-
-struct circuit {
-    uint8_t address, index, priority, repetition, copy;
-    size_t length, place;
-    const uint8_t *message;
-};
-
-static size_t packets(size_t length)
-{
-    return ((length <= 15 ? 1 : 2) + length + 15) / 16;
-}
-
-static size_t packet_of(const struct circuit *c, uint8_t *out)
-{
-    size_t last = packets(c->length) - 1, n = 2, from = 0, len = 16;
-    unsigned link = c->place == 0 ? 2 : c->place == last ? 1 : 0;
-    out[0] = c->address;
-    out[1] = (uint8_t)(link << 6 | c->index << 2 | c->priority);
-    if (c->place == 0) {
-        if (c->length > 15)
-            out[n++] = (uint8_t)(16 + c->length / 256);
-        out[n++] = c->length & 255;
-        len = 16 - (n - 2);
-    } else {
-        from = 16 * c->place - (c->length <= 15 ? 1 : 2);
-    }
-    if (len > c->length - from)
-        len = c->length - from;
-    for (size_t i = 0; i < len; i++)
-        out[n++] = c->message[from + i];
-    return n;
-}
-
-static size_t stuffed_length(const uint8_t *bytes, size_t n, unsigned *run)
-{
-    size_t bits = 0;
-    for (size_t i = 0; i < n; i++)
-        for (int k = 0; k < 8; k++) {
-            unsigned bit = (bytes[i] >> k) & 1;
-            bits++;
-            *run = bit ? *run + 1 : 0;
-            if (*run == 5) {
-                bits++;
-                *run = 0;
-            }
-        }
-    return bits;
-}
-
-static int pick(const struct circuit *c, int last)
-{
-    for (int priority = 3; priority >= 0; priority--)
-        for (int step = 1; step <= 4; step++) {
-            int i = (last + step) % 4;
-            if (c[i].place < packets(c[i].length) && c[i].priority == priority)
-                return i;
-        }
-    return -1;
-}
-
-static size_t put_frame(uint8_t *buf, size_t at, const uint8_t *packet, size_t size, uint16_t fcs)
-{
-    unsigned run = 0;
-    for (size_t i = 0; i < size; i++)
-        at = put_byte(buf, at, &run, packet[i]);
-    at = put_byte(buf, at, &run, fcs & 255);
-    at = put_byte(buf, at, &run, fcs >> 8);
-    return put_flag(buf, at);
-}
-
-uint64_t plain_blocks(uint8_t *buf, size_t len, const uint8_t *message, size_t message_len, size_t n)
-{
-    struct circuit c[4];
-    uint64_t sum = 0;
-    int last = 3;
-    (void)len;
-    for (int i = 0; i < 4; i++)
-        c[i] = (struct circuit){(uint8_t)(i + 1), 0, (uint8_t)(i & 1), (uint8_t)(i >> 1), 0, message_len, 0, message};
-    for (int more = 1; more;) {
-        size_t at = put_flag(buf, 0);
-        more = 0;
-        for (;;) {
-            uint8_t packet[21];
-            uint16_t fcs = 0xffff;
-            size_t size;
-            int i = pick(c, last);
-            if (i < 0)
-                break;
-            size = packet_of(&c[i], packet);
-            for (size_t b = 0; b < size; b++)
-                for (int k = 0; k < 8; k++)
-                    fcs = fcs_bit(fcs, (packet[b] >> k) & 1);
-            fcs = (uint16_t)~fcs;
-            if (at + 209 > n) {
-                uint8_t ends[2] = {(uint8_t)(fcs & 255), (uint8_t)(fcs >> 8)};
-                unsigned run = 0;
-                size_t bits = stuffed_length(packet, size, &run);
-                bits += stuffed_length(ends, 2, &run);
-                if (at + bits + 8 > n)
-                    break;
-            }
-            at = put_frame(buf, at, packet, size, fcs);
-            if (c[i].copy < c[i].repetition) {
-                c[i].copy++;
-            } else {
-                c[i].copy = 0;
-                c[i].place++;
-                c[i].index = (c[i].index + 1) % 8;
-            }
-            last = i;
-            more = 1;
-        }
-        sum += at;
-        for (; at < n; at++)
-            put_bit(buf, at, 1);
-        for (; at % 8; at++)
-            put_bit(buf, at, 0);
-    }
-    return sum;
-}
-
-/* ---- reading: packets of the circuits listed become notices and messages in the store */
-
-enum { REGION = 4096, SYSTEM_PLACE = 4 * REGION, STORE = SYSTEM_PLACE + 16 };
-
-enum kind { END, SPOILT, MALFORMED, SYSTEM, ELSEWHERE, CIRCUIT };
+enum notice { END, SPOILT, MALFORMED, SYSTEM, ELSEWHERE, CIRCUIT };
 enum fate { COPY, BEGUN, HELD, WHOLE, ORPHAN, WRONG };
 
-struct listed {
-    uint8_t address, extended, extension;
-};
-
-struct slot {
+/* A message is open while `place` is below `length`. */
+struct hearing {
     uint8_t seen, last;
     uint16_t length, place;
 };
 
-struct receiver {
-    unsigned count;
-    struct listed circuits[4];
-    struct slot slots[4];
+struct plain_receiver {
+    struct circuits circuits;
+    struct hearing slots[CIRCUITS];
     struct framing framing;
 };
 
-struct notice {
-    enum kind kind;
-    enum fate fate;
-    unsigned enable, code, number, loss;
+const size_t plain_receiver_size = sizeof(struct plain_receiver);
+
+/* A packet that passed; its segment is what stands behind address, control and extension. */
+struct packet {
+    struct circuit circuit;
+    enum link link;
+    unsigned control;
+    const uint8_t *segment;
     size_t length;
 };
 
-/* A refusal's number or 0, the bits read and the notice. */
-struct reading {
-    unsigned refusal;
-    size_t bits;
-    struct notice notice;
-};
-
-static int same(struct listed a, struct listed b)
+static int receiver_in_range(const struct plain_receiver *r)
 {
-    return a.address == b.address && a.extended == b.extended && a.extension == b.extension;
-}
-
-static int in_range(const struct receiver *r)
-{
-    if (r->count > 4)
+    if (!circuits_in_range(&r->circuits))
         return 0;
-    for (unsigned i = 0; i < r->count; i++) {
-        const struct listed *c = &r->circuits[i];
-        const struct slot *t = &r->slots[i];
-        if (c->address == 0xff || c->extended > 1 || (!c->extended && c->extension))
-            return 0;
-        for (unsigned j = 0; j < i; j++)
-            if (same(r->circuits[j], *c))
-                return 0;
-        if (t->last > 7 || t->length > 4094 || t->place > t->length)
+    for (unsigned i = 0; i < r->circuits.count; i++) {
+        const struct hearing *t = &r->slots[i];
+        if (t->seen > 1 || t->last > 7 || t->length > LONGEST || t->place > t->length)
             return 0;
     }
-    return r->framing.count <= 200;
+    return 1;
 }
 
-static int wrong_system(const uint8_t *p, size_t n, size_t lead)
+/* A first packet; no message is open. */
+static enum fate begin(struct hearing *t, uint8_t *region, const uint8_t *segment, size_t n)
 {
-    return p[1] >> 6 != 3 || p[1] & 16 || p[lead] >> 4 > 8 || (p[lead] & 15u) != n - lead - 1;
-}
-
-/* What becomes of a packet that is no copy, with its segment s of n bytes. A message stays open where `open` says so. */
-static enum fate fate_of(const struct slot *t, unsigned link, int open, const uint8_t *s, size_t n, size_t *header, size_t *length)
-{
-    *header = 0;
-    *length = t->length;
-    if (link == 2) {
-        *header = s[0] & 16 ? 2 : 1;
-        if (n < *header)
+    size_t header = segment[0] & 0x10 ? 2 : 1, length = segment[0] & 0x0f;
+    if (n < header)
+        return WRONG;
+    if (header == 2) {
+        length = length << 8 | segment[1];
+        if (length < 16 || length > LONGEST)
             return WRONG;
-        *length = *header == 2 ? (s[0] & 15u) * 256 + s[1] : s[0] & 15u;
-        if (*header == 2 && (*length < 16 || *length == 4095))
-            return WRONG;
-        if (n - *header == *length)
-            return WHOLE;
-        return n == 16 && n - *header < *length ? BEGUN : WRONG;
     }
-    if (!open)
+    if (n - header > length || (n - header < length && n < SEGMENT))
+        return WRONG;
+    memcpy(region, segment + header, n - header);
+    t->length = (uint16_t)length;
+    t->place = (uint16_t)(n - header);
+    return n - header == length ? WHOLE : BEGUN;
+}
+
+/* A packet between, or the last one. */
+static enum fate go_on(struct hearing *t, uint8_t *region, enum link link, const uint8_t *segment, size_t n)
+{
+    size_t due = t->length - t->place;
+    if (due == 0)
         return ORPHAN;
-    if (link == 0)
-        return n == 16 && t->place + 16u < t->length ? HELD : WRONG;
-    return t->place + n == t->length ? WHOLE : WRONG;
+    if (link == LAST ? n != due : n != SEGMENT || due <= SEGMENT)
+        return WRONG;
+    memcpy(region + t->place, segment, n);
+    t->place = (uint16_t)(t->place + n);
+    return link == LAST ? WHOLE : HELD;
 }
 
-static struct notice hear_circuit(struct slot *t, unsigned number, uint8_t *region, const uint8_t *p, size_t n, size_t lead)
+static void hear_circuit(struct hearing *t, uint8_t *region, const struct packet *p, struct plain_read *told)
 {
-    struct notice told = {.kind = CIRCUIT, .fate = COPY, .number = number};
-    unsigned link = p[1] >> 6, index = p[1] >> 2 & 7;
-    size_t header, length, part = 0;
+    unsigned index = p->control >> 2 & 7;
+    enum fate fate;
     if (t->seen && index == t->last)
-        return told;
+        return;
     if (t->seen)
-        told.loss = (index - t->last - 1u) & 7;
-    told.fate = fate_of(t, link, t->place < t->length && !told.loss, p + lead, n - lead, &header, &length);
-    if (link == 2)
-        t->place = 0;
-    if (told.fate == BEGUN || told.fate == HELD || told.fate == WHOLE) {
-        part = n - lead - header;
-        memcpy(region + t->place, p + lead + header, part);
-    }
-    if (told.fate == BEGUN || told.fate == HELD) {
-        t->length = (uint16_t)length;
-        t->place = (uint16_t)(t->place + part);
-    } else {
+        told->loss_or_code = (index - t->last - 1u) & 7;
+    if (told->loss_or_code || p->link == FIRST)
         t->length = t->place = 0;
-    }
-    if (told.fate == WHOLE)
-        told.length = length;
+    fate = p->link == FIRST ? begin(t, region, p->segment, p->length) : go_on(t, region, p->link, p->segment, p->length);
+    if (fate == WHOLE)
+        told->length = t->length;
+    if (fate == WHOLE || fate == WRONG)
+        t->length = t->place = 0;
+    told->fate_or_information = (uint8_t)fate;
     t->seen = 1;
     t->last = (uint8_t)index;
-    return told;
 }
 
-static struct notice hear(struct receiver *r, uint8_t *store, const uint8_t *p, size_t n)
+static void hear_system(uint8_t *store, const struct packet *p, struct plain_read *told)
 {
-    struct notice told = {.kind = MALFORMED};
-    struct listed c = {p[0], p[1] >> 5 & 1, 0};
-    size_t lead = 2u + c.extended;
-    if (n <= lead)
-        return told;
-    if (p[0] == 0xff) {
-        if (wrong_system(p, n, lead))
-            return told;
-        told = (struct notice){.kind = SYSTEM, .enable = p[1] & 15, .code = p[lead] >> 4, .length = n - lead - 1};
-        memcpy(store + SYSTEM_PLACE, p + lead + 1, told.length);
-        return told;
+    unsigned code = p->segment[0] >> 4;
+    size_t length = p->segment[0] & 0x0f;
+    if (p->link != SYSTEM_LINK || p->control & 0x10 || code > 8 || length != p->length - 1)
+        return;
+    told->notice = SYSTEM;
+    told->number_or_enable = p->control & 0x0f;
+    told->loss_or_code = (uint8_t)code;
+    told->fate_or_information = (uint8_t)length;
+    memcpy(store + SYSTEM_PLACE, p->segment + 1, length);
+}
+
+/* The notice of a packet of n bytes, at least two, that passed. */
+static void hear(struct plain_receiver *r, uint8_t *store, const uint8_t *bytes, size_t n, struct plain_read *told)
+{
+    unsigned control = bytes[1], extended = control >> 5 & 1, lead = 2 + extended, i = 0;
+    struct packet p = {{bytes[0], (uint8_t)extended, 0}, control >> 6, control, bytes + lead, n - lead};
+    told->notice = MALFORMED;
+    if (n <= lead || p.length > SEGMENT)
+        return;
+    if (p.circuit.address == SYSTEM_ADDRESS) {
+        hear_system(store, &p, told);
+        return;
     }
-    if (n - lead > 16 || p[1] >> 6 == 3)
-        return told;
-    if (c.extended)
-        c.extension = p[2];
-    for (unsigned i = 0; i < r->count; i++)
-        if (same(r->circuits[i], c))
-            return hear_circuit(&r->slots[i], i, store + REGION * i, p, n, lead);
-    told.kind = ELSEWHERE;
-    return told;
-}
-
-/* A reading call: the bits from `from` to `to` up to the first notice. */
-static struct reading read_bits(struct receiver *r, uint8_t *store, size_t store_len, const uint8_t *bytes, size_t len, size_t from,
-                                size_t to)
-{
-    struct reading done = {.refusal = 0};
-    size_t at = from;
-    int n;
-    if (!in_range(r))
-        done.refusal = 14;
-    else if (store_len < STORE)
-        done.refusal = 5;
-    else if (to < from || to > 8 * len)
-        done.refusal = 15;
-    if (done.refusal)
-        return done;
-    n = next_body(&r->framing, bytes, &at, to);
-    if (n > 0)
-        done.notice = hear(r, store, r->framing.body, (size_t)n);
-    else if (n < 0)
-        done.notice.kind = SPOILT;
-    done.bits = at - from;
-    return done;
-}
-
-static uint64_t weight(const struct notice *told, const uint8_t *store)
-{
-    static const unsigned fates[] = {1, 2, 3, 6, 4, 5};
-    switch (told->kind) {
-    case END:
-        return 1;
-    case SPOILT:
-        return 2;
-    case MALFORMED:
-        return 3;
-    case SYSTEM:
-        return told->enable + told->code + told->length;
-    case ELSEWHERE:
-        return 4;
-    default:
-        return told->loss + told->number + fates[told->fate] + (told->fate == WHOLE ? told->length + store[REGION * told->number] : 0);
+    if (p.link == SYSTEM_LINK)
+        return;
+    if (extended)
+        p.circuit.extension = bytes[2];
+    while (i < r->circuits.count && !same(&r->circuits.list[i], &p.circuit))
+        i++;
+    if (i == r->circuits.count) {
+        told->notice = ELSEWHERE;
+        return;
     }
+    told->notice = CIRCUIT;
+    told->number_or_enable = (uint8_t)i;
+    hear_circuit(&r->slots[i], store + REGION * i, &p, told);
 }
 
-uint64_t plain_read(const uint8_t *bytes, size_t len, size_t from, size_t to, uint8_t *store, size_t store_len)
+/* ---- reading: the calls */
+
+uint32_t plain_receiver_list(struct plain_receiver *r, const uint8_t *list, size_t list_len)
 {
-    struct receiver r = {.count = 3, .circuits = {{4, 0, 0}, {1, 0, 0}, {2, 1, 7}}};
-    uint64_t sum = 0;
-    while (from < to) {
-        struct reading done = read_bits(&r, store, store_len, bytes, len, from, to);
-        if (done.refusal)
-            break;
-        sum += weight(&done.notice, store);
-        from += done.bits;
-    }
-    return sum;
+    memset(r, 0, sizeof *r);
+    r->framing.window = 0xffff;
+    return list_circuits(&r->circuits, list, list_len);
+}
+
+uint32_t plain_receiver_read(struct plain_receiver *r, uint8_t *store, size_t store_len, const uint8_t *bits, size_t bits_len,
+                             uint64_t from, uint64_t to, struct plain_read *answer)
+{
+    uint64_t at = from;
+    int found;
+    if (!receiver_in_range(r))
+        return 14;
+    if (store_len < RECEIVER_STORE)
+        return 5;
+    if (from > to || to / 8 > bits_len || (to / 8 == bits_len && to % 8))
+        return 15;
+    memset(answer, 0, sizeof *answer);
+    found = next_body(&r->framing, bits, &at, to);
+    if (found > 0)
+        hear(r, store, r->framing.body, (size_t)found, answer);
+    else if (found < 0)
+        answer->notice = SPOILT;
+    answer->bits = at - from;
+    return 0;
 }

@@ -1,0 +1,127 @@
+//! The benchmark: the library, plain C and the reference on the same data, side by side.
+
+mod blocks;
+mod calls;
+mod noise;
+mod race;
+mod reads;
+mod sides;
+mod stack;
+mod table;
+
+use aes18::{RECEIVER_RECORD, RECEIVER_STORE, SENDER_RECORD, SENDER_STORE};
+use blocks::Traffic;
+use noise::Noise;
+use race::{Race, TURNS};
+use reads::Channel;
+use sides::{Library, Plain};
+use std::fs;
+use std::process::ExitCode;
+use std::time::Instant;
+use table::say;
+
+fn main() -> ExitCode {
+    match run() {
+        Ok(()) => ExitCode::SUCCESS,
+        Err(message) => {
+            eprintln!("bench: {message}");
+            ExitCode::FAILURE
+        }
+    }
+}
+
+fn run() -> Result<(), String> {
+    let started = Instant::now();
+    let plain_records = Plain::record_sizes()?;
+    let mut noise = Noise::new();
+    let mut making = blocks::races(&mut noise);
+    let clean = Channel::clean(&making[0].case).map_err(refused)?;
+    let mut reading = reads::races(&clean, &mut noise).map_err(refused)?;
+    let mut calling = calls::races(&clean);
+    head()?;
+    check(&mut making)?;
+    check(&mut reading)?;
+    check(&mut calling)?;
+    say("Checked: in every case the three give the same blocks, answers, messages and stores. They are compared again after every turn.")?;
+    time("Block making", "bit", &mut making)?;
+    time("Reading", "bit", &mut reading)?;
+    time("Calls without work", "call", &mut calling)?;
+    sizes(plain_records)?;
+    depths(&making[0].case, &reading[1].case)?;
+    let seconds = started.elapsed().as_secs_f64();
+    say(&format!("\nThe run took {seconds:.0} s."))
+}
+
+fn refused(number: u32) -> String {
+    format!("the library refuses a call by {number}")
+}
+
+/// What is compared, and how.
+fn head() -> Result<(), String> {
+    let (gcc, flags, rustc) = (env!("BENCH_GCC"), env!("BENCH_FLAGS"), env!("BENCH_RUSTC"));
+    say(&format!(
+        "The figures are of this run on this machine{}.",
+        processor()
+    ))?;
+    say("library    libaes18.a through its five functions in C; a record is bytes, checked in every call")?;
+    say(
+        "plain C    bench/plain.c; a record is a struct, checked in every call but for its framing",
+    )?;
+    say(&format!("           {gcc}, {flags}"))?;
+    say("reference  package reference/; an end is a value of its own, not checked")?;
+    say(&format!("           {rustc}, --release"))?;
+    say(&format!(
+        "Each figure is the best of {TURNS} turns. The three take turns, in both orders."
+    ))?;
+    say("Blocks, answers and stores are not cleared between turns: each turn writes over those of the one before.")
+}
+
+/// The processor's name, where the system tells it.
+fn processor() -> String {
+    let told = fs::read_to_string("/proc/cpuinfo").unwrap_or_default();
+    let name = told.lines().find_map(|line| {
+        let (key, value) = line.split_once(':')?;
+        (key.trim() == "model name").then(|| format!(" ({})", value.trim()))
+    });
+    name.unwrap_or_default()
+}
+
+/// Stops where the sides differ.
+fn check<C, L: Default + PartialEq>(races: &mut [Race<C, L>]) -> Result<(), String> {
+    races.iter_mut().try_for_each(Race::check)
+}
+
+/// Times the races and prints their table.
+fn time<C, L: Default + PartialEq>(
+    title: &str,
+    unit: &str,
+    races: &mut [Race<C, L>],
+) -> Result<(), String> {
+    table::times_head(title, unit)?;
+    for race in races {
+        let best = race.best()?;
+        let each = best.map(|nanos| nanos / race.count as f64);
+        table::times(race.name, race.count, each)?;
+    }
+    Ok(())
+}
+
+/// The bytes that a caller lends.
+fn sizes([plain_sender, plain_receiver]: [usize; 2]) -> Result<(), String> {
+    table::bytes_head("Lent by the caller, bytes")?;
+    table::bytes("sender's record", SENDER_RECORD, plain_sender)?;
+    table::bytes("receiver's record", RECEIVER_RECORD, plain_receiver)?;
+    table::bytes("sender's store", SENDER_STORE, SENDER_STORE)?;
+    table::bytes("receiver's store", RECEIVER_STORE, RECEIVER_STORE)
+}
+
+/// The stack that the calls touch.
+fn depths(traffic: &Traffic, channel: &Channel) -> Result<(), String> {
+    let library = stack::depths::<Library>(traffic, channel).map_err(refused)?;
+    let plain = stack::depths::<Plain>(traffic, channel).map_err(refused)?;
+    table::bytes_head("Stack, deepest call with its arguments, bytes")?;
+    for (call, name) in stack::CALLS.into_iter().enumerate() {
+        table::bytes(name, library[call], plain[call])?;
+    }
+    Ok(())
+}

@@ -1,0 +1,153 @@
+//! Plain C: plain.c, as bench.h declares it.
+
+use super::{answered, Ask, BlockAnswer, Offer, Part, ReadAnswer, Receiver, Sender, Side};
+use std::ptr;
+
+pub struct Plain;
+
+impl Side for Plain {
+    type Sender = PlainSender;
+    type Receiver = PlainReceiver;
+}
+
+/// Room for either struct of plain.c, which says how much of it is used.
+type Room = [u64; 16];
+
+#[derive(Default)]
+#[repr(C)]
+pub struct PlainSender(Room);
+
+#[derive(Default)]
+#[repr(C)]
+pub struct PlainReceiver(Room);
+
+#[repr(C)]
+struct PlainSystem {
+    enable: u64,
+    code: u64,
+    info: *const u8,
+    info_len: usize,
+}
+
+extern "C" {
+    static plain_sender_size: usize;
+    static plain_receiver_size: usize;
+    fn plain_sender_list(s: *mut PlainSender, list: *const u8, list_len: usize) -> u32;
+    fn plain_sender_offer(
+        s: *mut PlainSender,
+        store: *mut u8,
+        store_len: usize,
+        circuit: u64,
+        priority: u64,
+        repetition: u64,
+        message: *const u8,
+        message_len: usize,
+    ) -> u32;
+    fn plain_sender_block(
+        s: *mut PlainSender,
+        store: *const u8,
+        store_len: usize,
+        n: u64,
+        u: u64,
+        system: *const PlainSystem,
+        block: *mut u8,
+        block_len: usize,
+        answer: *mut BlockAnswer,
+    ) -> u32;
+    fn plain_receiver_list(r: *mut PlainReceiver, list: *const u8, list_len: usize) -> u32;
+    fn plain_receiver_read(
+        r: *mut PlainReceiver,
+        store: *mut u8,
+        store_len: usize,
+        bits: *const u8,
+        bits_len: usize,
+        from: u64,
+        to: u64,
+        answer: *mut ReadAnswer,
+    ) -> u32;
+}
+
+impl Plain {
+    /// Bytes of the two records, if there is room for them.
+    pub fn record_sizes() -> Result<[usize; 2], String> {
+        // SAFETY: both are constants of plain.c.
+        let sizes = unsafe { [plain_sender_size, plain_receiver_size] };
+        if sizes.iter().any(|&size| size > size_of::<Room>()) {
+            return Err(format!(
+                "the records of plain C have {sizes:?} bytes, more than there is room for"
+            ));
+        }
+        Ok(sizes)
+    }
+}
+
+// SAFETY of the calls below: a record has room for the struct (`record_sizes`), an answer is laid out as its struct, each other pointer is of a
+// slice and passed with its length, and nothing that is written overlaps anything else.
+
+impl Sender for PlainSender {
+    fn list(&mut self, list: &[u8]) -> Result<(), u32> {
+        answered(unsafe { plain_sender_list(self, list.as_ptr(), list.len()) })
+    }
+
+    fn offer(&mut self, store: &mut [u8], offer: Offer<'_>) -> Result<(), u32> {
+        answered(unsafe {
+            plain_sender_offer(
+                self,
+                store.as_mut_ptr(),
+                store.len(),
+                offer.circuit,
+                offer.priority,
+                offer.repetition,
+                offer.message.as_ptr(),
+                offer.message.len(),
+            )
+        })
+    }
+
+    fn block(&mut self, store: &[u8], ask: Ask<'_>, block: &mut [u8]) -> Result<BlockAnswer, u32> {
+        let mut answer = BlockAnswer::default();
+        let system = ask.system.map(|system| PlainSystem {
+            enable: system.enable,
+            code: system.code,
+            info: system.information.as_ptr(),
+            info_len: system.information.len(),
+        });
+        answered(unsafe {
+            plain_sender_block(
+                self,
+                store.as_ptr(),
+                store.len(),
+                ask.n,
+                ask.n,
+                system.as_ref().map_or(ptr::null(), ptr::from_ref),
+                block.as_mut_ptr(),
+                block.len(),
+                &mut answer,
+            )
+        })?;
+        Ok(answer)
+    }
+}
+
+impl Receiver for PlainReceiver {
+    fn list(&mut self, list: &[u8]) -> Result<(), u32> {
+        answered(unsafe { plain_receiver_list(self, list.as_ptr(), list.len()) })
+    }
+
+    fn read(&mut self, store: &mut [u8], bits: &[u8], part: Part) -> Result<ReadAnswer, u32> {
+        let mut answer = ReadAnswer::default();
+        answered(unsafe {
+            plain_receiver_read(
+                self,
+                store.as_mut_ptr(),
+                store.len(),
+                bits.as_ptr(),
+                bits.len(),
+                part.from,
+                part.to,
+                &mut answer,
+            )
+        })?;
+        Ok(answer)
+    }
+}

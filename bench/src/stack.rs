@@ -1,0 +1,101 @@
+//! How deep the calls go on the stack: each runs on a stack of its own that is filled with a pattern beforehand (stack.c).
+
+use crate::blocks::{make, Made, Traffic};
+use crate::reads::{hear, Channel, Heard};
+use crate::sides::{Ask, BlockAnswer, Offer, Part, ReadAnswer, Receiver, Sender, Side};
+use std::cell::Cell;
+use std::ffi::c_void;
+use std::marker::PhantomData;
+
+/// The names of the five calls.
+pub const CALLS: [&str; 5] = [
+    "sender_list",
+    "sender_offer",
+    "sender_block",
+    "receiver_list",
+    "receiver_read",
+];
+
+/// The number of a call among them.
+#[derive(Clone, Copy)]
+enum Call {
+    SenderList,
+    SenderOffer,
+    SenderBlock,
+    ReceiverList,
+    ReceiverRead,
+}
+
+thread_local! {
+    /// The bytes that the deepest of each of the five calls has touched.
+    static DEEPEST: Cell<[usize; 5]> = const { Cell::new([0; 5]) };
+}
+
+/// The bytes that the deepest of each of the five calls touches while the traffic's blocks are made and the channel is read.
+pub fn depths<S: Side>(traffic: &Traffic, channel: &Channel) -> Result<[usize; 5], u32> {
+    DEEPEST.set([0; 5]);
+    make::<Painted<S>>(traffic, &mut Made::default())?;
+    hear::<Painted<S>>(channel, &mut Heard::default())?;
+    Ok(DEEPEST.get())
+}
+
+/// Makes a call on a painted stack and keeps its depth beyond that of an empty one; the arguments that are passed on the stack are counted too.
+fn painted<T>(call: Call, mut run: impl FnMut() -> Result<T, u32>) -> Result<T, u32> {
+    let mut result = Err(0);
+    let depth = touched(|| result = run()) - touched(|| ());
+    let mut deepest = DEEPEST.get();
+    deepest[call as usize] = deepest[call as usize].max(depth);
+    DEEPEST.set(deepest);
+    result
+}
+
+/// How many bytes of a stack of its own a function touches.
+fn touched<F: FnMut()>(mut function: F) -> usize {
+    extern "C" {
+        fn stack_depth(call: unsafe extern "C" fn(*mut c_void), given: *mut c_void) -> usize;
+    }
+    unsafe extern "C" fn run<F: FnMut()>(given: *mut c_void) {
+        let function = given.cast::<F>();
+        (*function)();
+    }
+    // SAFETY: `run` is called once, before this returns, with the pointer to `function` given here.
+    unsafe { stack_depth(run::<F>, (&raw mut function).cast()) }
+}
+
+/// A side whose calls are made on a painted stack.
+struct Painted<S>(PhantomData<S>);
+
+impl<S: Side> Side for Painted<S> {
+    type Sender = PaintedSender<S::Sender>;
+    type Receiver = PaintedReceiver<S::Receiver>;
+}
+
+#[derive(Default)]
+struct PaintedSender<E>(E);
+
+impl<E: Sender> Sender for PaintedSender<E> {
+    fn list(&mut self, list: &[u8]) -> Result<(), u32> {
+        painted(Call::SenderList, || self.0.list(list))
+    }
+
+    fn offer(&mut self, store: &mut [u8], offer: Offer<'_>) -> Result<(), u32> {
+        painted(Call::SenderOffer, || self.0.offer(store, offer))
+    }
+
+    fn block(&mut self, store: &[u8], ask: Ask<'_>, block: &mut [u8]) -> Result<BlockAnswer, u32> {
+        painted(Call::SenderBlock, || self.0.block(store, ask, block))
+    }
+}
+
+#[derive(Default)]
+struct PaintedReceiver<E>(E);
+
+impl<E: Receiver> Receiver for PaintedReceiver<E> {
+    fn list(&mut self, list: &[u8]) -> Result<(), u32> {
+        painted(Call::ReceiverList, || self.0.list(list))
+    }
+
+    fn read(&mut self, store: &mut [u8], bits: &[u8], part: Part) -> Result<ReadAnswer, u32> {
+        painted(Call::ReceiverRead, || self.0.read(store, bits, part))
+    }
+}
