@@ -1,0 +1,164 @@
+//! The functions of the C interface: each is given a record as bytes and answers 0, or the number of 01's refusal, or 255 where record or
+//! answer is too short. An end is built from the bytes, makes the call, and writes the bytes back.
+
+use crate::packet::System;
+use crate::receiver::{Fate, Notice, Read, Receiver};
+use crate::records::{NO_RECEIVER, NO_SENDER, RECEIVER_RECORD, SENDER_RECORD};
+use crate::sender::{Block, Sender};
+
+/// Bytes of the answer of block making.
+pub const BLOCK_ANSWER: usize = 8;
+/// Bytes of the answer of reading.
+pub const READ_ANSWER: usize = 16;
+/// Answered where record or answer is too short.
+pub const TOO_SHORT: u32 = 255;
+
+/// The interface's number of a result.
+pub fn number<T>(result: &Result<T, u32>) -> u32 {
+    result.as_ref().err().copied().unwrap_or(0)
+}
+
+/// The bytes that block making answers: frames placed and bits used.
+pub fn block_answer(block: &Block) -> [u8; BLOCK_ANSWER] {
+    let mut answer = [0; BLOCK_ANSWER];
+    answer[..4].copy_from_slice(&(block.placed() as u32).to_le_bytes());
+    answer[4..].copy_from_slice(&(block.used as u32).to_le_bytes());
+    answer
+}
+
+/// The bytes that reading answers: notice, what goes with it, and bits read.
+pub fn read_answer(read: &Read) -> [u8; READ_ANSWER] {
+    let notice = match read.notice {
+        Notice::End => [0, 0, 0, 0, 0, 0],
+        Notice::Spoilt => [1, 0, 0, 0, 0, 0],
+        Notice::Malformed => [2, 0, 0, 0, 0, 0],
+        Notice::System {
+            enable,
+            code,
+            length,
+        } => [3, enable as u8, code as u8, length as u8, 0, 0],
+        Notice::Elsewhere => [4, 0, 0, 0, 0, 0],
+        Notice::Circuit { number, loss, fate } => {
+            let (fate, length) = match fate {
+                Fate::Copy => (0, 0),
+                Fate::Begun => (1, 0),
+                Fate::Held => (2, 0),
+                Fate::Whole(length) => (3, length),
+                Fate::Orphan => (4, 0),
+                Fate::Wrong => (5, 0),
+            };
+            [
+                5,
+                number as u8,
+                loss,
+                fate,
+                length as u8,
+                (length >> 8) as u8,
+            ]
+        }
+    };
+    let mut answer = [0; READ_ANSWER];
+    answer[..6].copy_from_slice(&notice);
+    answer[8..].copy_from_slice(&read.bits.to_le_bytes());
+    answer
+}
+
+pub fn sender_list(record: &mut [u8], list: &[u8]) -> u32 {
+    if record.len() < SENDER_RECORD {
+        return TOO_SHORT;
+    }
+    let listed = Sender::list(list);
+    let bytes = listed.as_ref().map_or(NO_SENDER, Sender::record);
+    record[..SENDER_RECORD].copy_from_slice(&bytes);
+    number(&listed)
+}
+
+pub fn sender_offer(
+    record: &mut [u8],
+    store: &mut [u8],
+    circuit: u64,
+    priority: u64,
+    repetition: u64,
+    message: &[u8],
+) -> u32 {
+    if record.len() < SENDER_RECORD {
+        return TOO_SHORT;
+    }
+    let offered = Sender::resume(record, store).and_then(|mut sender| {
+        sender.offer(store, circuit, priority, repetition, message)?;
+        record[..SENDER_RECORD].copy_from_slice(&sender.record());
+        Ok(())
+    });
+    number(&offered)
+}
+
+/// The values a block call is given beside record, store and buffers. `system` is 0 for none.
+#[derive(Clone, Copy, Debug)]
+pub struct BlockCall<'a> {
+    pub n: u64,
+    pub u: u64,
+    pub system: u64,
+    pub enable: u64,
+    pub code: u64,
+    pub information: &'a [u8],
+}
+
+impl<'a> BlockCall<'a> {
+    /// The system packet that is wanted.
+    pub fn wanted(&self) -> Option<System<'a>> {
+        (self.system != 0).then_some(System {
+            enable: self.enable,
+            code: self.code,
+            information: self.information,
+        })
+    }
+}
+
+pub fn sender_block(
+    record: &mut [u8],
+    store: &[u8],
+    call: BlockCall<'_>,
+    block: &mut [u8],
+    answer: &mut [u8],
+) -> u32 {
+    if record.len() < SENDER_RECORD || answer.len() < BLOCK_ANSWER {
+        return TOO_SHORT;
+    }
+    let made = Sender::resume(record, store).and_then(|mut sender| {
+        let made = sender.block(store, call.n, call.u, call.wanted(), block)?;
+        record[..SENDER_RECORD].copy_from_slice(&sender.record());
+        answer[..BLOCK_ANSWER].copy_from_slice(&block_answer(&made));
+        Ok(())
+    });
+    number(&made)
+}
+
+pub fn receiver_list(record: &mut [u8], list: &[u8]) -> u32 {
+    if record.len() < RECEIVER_RECORD {
+        return TOO_SHORT;
+    }
+    let listed = Receiver::list(list);
+    let bytes = listed.as_ref().map_or(NO_RECEIVER, Receiver::record);
+    record[..RECEIVER_RECORD].copy_from_slice(&bytes);
+    number(&listed)
+}
+
+pub fn receiver_read(
+    record: &mut [u8],
+    store: &mut [u8],
+    bits: &[u8],
+    from: u64,
+    to: u64,
+    answer: &mut [u8],
+) -> u32 {
+    if record.len() < RECEIVER_RECORD || answer.len() < READ_ANSWER {
+        return TOO_SHORT;
+    }
+    let read = Receiver::resume(record, store).and_then(|mut receiver| {
+        let read = receiver.read(store, bits, from, to)?;
+        record[..RECEIVER_RECORD].copy_from_slice(&receiver.record());
+        answer[..READ_ANSWER].copy_from_slice(&read_answer(&read));
+        Ok(())
+    });
+    number(&read)
+}

@@ -1,0 +1,266 @@
+//! 01, "Blocks" and the calls of a sender: a queue of waiting copies for each circuit, and blocks made of them.
+
+use crate::bits::bytes_of;
+use crate::hdlc::{frame, FLAG};
+use crate::packet::{listed, packet_count, packets, Circuit, System};
+use crate::records::{
+    put_circuits, SenderRecord, SenderSlot, LAST_SERVED, NO_SENDER, SENDER_RECORD, SENDER_SLOT,
+    SLOTS,
+};
+use crate::{LONGEST_MESSAGE, REGION, SENDER_STORE};
+use std::collections::VecDeque;
+use std::ops::Range;
+
+/// A circuit and what waits there.
+#[derive(Clone, Debug)]
+struct Queue {
+    circuit: Circuit,
+    /// Priority, repetition and length of the last message.
+    priority: u8,
+    repetition: u8,
+    length: usize,
+    /// Continuity index of the first packet of the next message.
+    next_index: u8,
+    /// The packets of all copies that wait, in order.
+    copies: VecDeque<Vec<u8>>,
+    /// What the record says of the copy while nothing waits: 0, if the record was made by calls.
+    idle_copy: u8,
+}
+
+impl Queue {
+    /// The queue that a slot tells, with the message in `region`.
+    fn of(circuit: Circuit, slot: &SenderSlot, region: &[u8]) -> Queue {
+        let first_index = ((usize::from(slot.index) + 8 * REGION - slot.place) % 8) as u8;
+        let packets = packets(circuit, &region[..slot.length], first_index, slot.priority);
+        let left = packets.len() - slot.place;
+        let each = usize::from(slot.repetition) + 1;
+        let copies = packets.into_iter().flat_map(|packet| vec![packet; each]);
+        Queue {
+            circuit,
+            priority: slot.priority,
+            repetition: slot.repetition,
+            length: slot.length,
+            next_index: ((usize::from(slot.index) + left) % 8) as u8,
+            copies: copies
+                .skip(slot.place * each + usize::from(slot.copy))
+                .collect(),
+            idle_copy: if left == 0 { slot.copy } else { 0 },
+        }
+    }
+
+    fn slot(&self) -> SenderSlot {
+        let each = usize::from(self.repetition) + 1;
+        let placed = packet_count(self.length) * each - self.copies.len();
+        let (index, copy) = match self.copies.front() {
+            Some(packet) => (packet[1] >> 2 & 7, (placed % each) as u8),
+            None => (self.next_index, self.idle_copy),
+        };
+        SenderSlot {
+            index,
+            priority: self.priority,
+            repetition: self.repetition,
+            copy,
+            length: self.length,
+            place: placed / each,
+        }
+    }
+}
+
+/// Where a frame stands in a block, from its opening flag to its closing one, both included. The circuit is None for a system packet.
+#[derive(Clone, Debug, PartialEq, Eq)]
+pub struct Frame {
+    pub circuit: Option<usize>,
+    pub bits: Range<usize>,
+}
+
+/// What a block has got.
+#[derive(Clone, Debug, PartialEq, Eq)]
+pub struct Block {
+    pub frames: Vec<Frame>,
+    /// The bits before the closing ones.
+    pub used: usize,
+}
+
+impl Block {
+    /// The number of frames placed, system excluded.
+    pub fn placed(&self) -> usize {
+        self.frames
+            .iter()
+            .filter(|frame| frame.circuit.is_some())
+            .count()
+    }
+}
+
+/// A block as it is written.
+struct Writing {
+    bits: Vec<bool>,
+    frames: Vec<Frame>,
+}
+
+impl Writing {
+    /// Puts a frame and a flag behind the flag that is last.
+    fn put(&mut self, circuit: Option<usize>, frame: &[bool]) {
+        let start = self.bits.len() - FLAG.len();
+        self.bits.extend_from_slice(frame);
+        self.bits.extend_from_slice(&FLAG);
+        let bits = start..self.bits.len();
+        self.frames.push(Frame { circuit, bits });
+    }
+}
+
+/// A sender, with every copy that waits.
+#[derive(Clone, Debug)]
+pub struct Sender {
+    queues: Vec<Queue>,
+    last_served: usize,
+    /// The record as the last call left it.
+    record: [u8; SENDER_RECORD],
+}
+
+impl Sender {
+    /// Lists the circuits, or gives the refusal's number.
+    pub fn list(list: &[u8]) -> Result<Sender, u32> {
+        listed(list)?;
+        let mut record = NO_SENDER;
+        put_circuits(&mut record, list);
+        Sender::resume(&record, &[0; SENDER_STORE])
+    }
+
+    /// The sender that the first 46 bytes and the store tell, or refusal 14 or 5.
+    pub fn resume(bytes: &[u8], store: &[u8]) -> Result<Sender, u32> {
+        let told = SenderRecord::unpack(bytes).ok_or(14u32)?;
+        if store.len() < SENDER_STORE {
+            return Err(5);
+        }
+        let ends = told
+            .circuits
+            .iter()
+            .zip(&told.slots)
+            .zip(store.chunks(REGION));
+        let mut record = NO_SENDER;
+        record.copy_from_slice(&bytes[..SENDER_RECORD]);
+        Ok(Sender {
+            queues: ends
+                .map(|((&circuit, slot), region)| Queue::of(circuit, slot, region))
+                .collect(),
+            last_served: told.last_served,
+            record,
+        })
+    }
+
+    /// The record's bytes. Slots that no circuit has stay as they were given.
+    pub fn record(&self) -> [u8; SENDER_RECORD] {
+        let mut record = self.record;
+        let slots = record[SLOTS..].chunks_mut(SENDER_SLOT);
+        for (queue, slot) in self.queues.iter().zip(slots) {
+            slot.copy_from_slice(&queue.slot().pack());
+        }
+        record[LAST_SERVED] = self.last_served as u8;
+        record
+    }
+
+    /// Offers a message at a circuit, or gives the refusal's number.
+    pub fn offer(
+        &mut self,
+        store: &mut [u8],
+        circuit: u64,
+        priority: u64,
+        repetition: u64,
+        message: &[u8],
+    ) -> Result<(), u32> {
+        if store.len() < SENDER_STORE {
+            return Err(5);
+        }
+        if circuit >= self.queues.len() as u64 {
+            return Err(6);
+        }
+        if priority > 3 {
+            return Err(7);
+        }
+        if repetition > 5 {
+            return Err(8);
+        }
+        if message.len() > LONGEST_MESSAGE {
+            return Err(9);
+        }
+        let queue = &mut self.queues[circuit as usize];
+        if !queue.copies.is_empty() {
+            return Err(10);
+        }
+        let slot = SenderSlot {
+            index: queue.next_index,
+            priority: priority as u8,
+            repetition: repetition as u8,
+            copy: 0,
+            length: message.len(),
+            place: 0,
+        };
+        *queue = Queue::of(queue.circuit, &slot, message);
+        store[circuit as usize * REGION..][..message.len()].copy_from_slice(message);
+        Ok(())
+    }
+
+    /// Makes a block of `n` bits of which `u` may be used, or gives the refusal's number. Of the store only the length is looked at: this
+    /// sender has all copies itself.
+    pub fn block(
+        &mut self,
+        store: &[u8],
+        n: u64,
+        u: u64,
+        system: Option<System<'_>>,
+        block: &mut [u8],
+    ) -> Result<Block, u32> {
+        if store.len() < SENDER_STORE {
+            return Err(5);
+        }
+        if !(256..=27_000).contains(&n) || !(256..=n).contains(&u) {
+            return Err(11);
+        }
+        if (block.len() as u64) < n.div_ceil(8) {
+            return Err(12);
+        }
+        if system.is_some_and(|system| !system.in_range()) {
+            return Err(13);
+        }
+        let Writing { mut bits, frames } = self.fill(u as usize, system);
+        let used = bits.len();
+        bits.resize(n as usize, true);
+        let bytes = bytes_of(&bits);
+        block[..bytes.len()].copy_from_slice(&bytes);
+        Ok(Block { frames, used })
+    }
+
+    /// All of a block but the closing ones, in at most `u` bits.
+    fn fill(&mut self, u: usize, system: Option<System<'_>>) -> Writing {
+        let mut writing = Writing {
+            bits: FLAG.to_vec(),
+            frames: vec![],
+        };
+        if let Some(system) = system {
+            writing.put(None, &frame(&system.packet()));
+        }
+        let enable = system.map_or(15, |system| system.enable);
+        while let Some(number) = self.pick(enable) {
+            let frame = frame(&self.queues[number].copies[0]);
+            if writing.bits.len() + frame.len() + FLAG.len() > u {
+                break;
+            }
+            writing.put(Some(number), &frame);
+            self.queues[number].copies.pop_front();
+            self.last_served = number;
+        }
+        writing
+    }
+
+    /// The circuit of the next frame: of the highest enabled priority that waits, the first going round by number after the one last served.
+    fn pick(&self, enable: u64) -> Option<usize> {
+        let waits = |number: &usize| {
+            let queue = &self.queues[*number];
+            !queue.copies.is_empty() && enable >> queue.priority & 1 == 1
+        };
+        let turns = |number: usize| (number + 4 - self.last_served - 1) % 4;
+        (0..self.queues.len())
+            .filter(waits)
+            .min_by_key(|&number| (3 - self.queues[number].priority, turns(number)))
+    }
+}
