@@ -73,26 +73,28 @@ pub fn sender_list(record: &mut [u8], list: &[u8]) -> u32 {
     number(&listed)
 }
 
-pub fn sender_offer(
-    record: &mut [u8],
-    store: &mut [u8],
-    circuit: u64,
-    priority: u64,
-    repetition: u64,
-    message: &[u8],
-) -> u32 {
+/// What an offering call is given beside record and store.
+#[derive(Clone, Copy, Debug)]
+pub struct OfferCall<'a> {
+    pub circuit: u64,
+    pub priority: u64,
+    pub repetition: u64,
+    pub message: &'a [u8],
+}
+
+pub fn sender_offer(record: &mut [u8], store: &mut [u8], call: OfferCall<'_>) -> u32 {
     if record.len() < SENDER_RECORD {
         return TOO_SHORT;
     }
     let offered = Sender::resume(record, store).and_then(|mut sender| {
-        sender.offer(store, circuit, priority, repetition, message)?;
+        sender.offer(store, call.circuit, call.priority, call.repetition, call.message)?;
         record[..SENDER_RECORD].copy_from_slice(&sender.record());
         Ok(())
     });
     number(&offered)
 }
 
-/// The values a block call is given beside record, store and buffers. `system` is 0 for none.
+/// What a block call is given beside record, store and buffers. `system` is 0 for none.
 #[derive(Clone, Copy, Debug)]
 pub struct BlockCall<'a> {
     pub n: u64,
@@ -143,19 +145,20 @@ pub fn receiver_list(record: &mut [u8], list: &[u8]) -> u32 {
     number(&listed)
 }
 
-pub fn receiver_read(
-    record: &mut [u8],
-    store: &mut [u8],
-    bits: &[u8],
-    from: u64,
-    to: u64,
-    answer: &mut [u8],
-) -> u32 {
+/// What a reading call is given beside record, store and answer.
+#[derive(Clone, Copy, Debug)]
+pub struct ReadCall<'a> {
+    pub bits: &'a [u8],
+    pub from: u64,
+    pub to: u64,
+}
+
+pub fn receiver_read(record: &mut [u8], store: &mut [u8], call: ReadCall<'_>, answer: &mut [u8]) -> u32 {
     if record.len() < RECEIVER_RECORD || answer.len() < READ_ANSWER {
         return TOO_SHORT;
     }
     let read = Receiver::resume(record, store).and_then(|mut receiver| {
-        let read = receiver.read(store, bits, from, to)?;
+        let read = receiver.read(store, call.bits, call.from, call.to)?;
         record[..RECEIVER_RECORD].copy_from_slice(&receiver.record());
         answer[..READ_ANSWER].copy_from_slice(&read_answer(&read));
         Ok(())

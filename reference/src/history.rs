@@ -23,13 +23,17 @@ impl History {
     /// Reads a bit. If it ends the flag behind a body that is not void, this is the body.
     pub fn read(&mut self, bit: bool) -> Option<Vec<bool>> {
         self.bits.push(bit);
+        if bit {
+            if self.bits.ends_with(&[true; 7]) || self.bits == [true] {
+                self.bits.clear();
+            }
+            return None;
+        }
         if self.bits.ends_with(&FLAG) {
             let body = self.before_last_flag();
-            self.bits = FLAG.to_vec();
-            return body;
-        }
-        if self.bits.ends_with(&[true; 7]) {
             self.bits.clear();
+            self.bits.extend(FLAG);
+            return body;
         }
         self.trim();
         None
@@ -45,12 +49,10 @@ impl History {
         (self.in_body() && end >= 8).then(|| self.bits[8..end].to_vec())
     }
 
-    /// Forgets what no later bit can make matter. Outside a body that is all before the last 0. In a body that is already too long to
-    /// pass it is a stretch from behind one 0 to the last 0 but one: that joins no ones that did not stand together.
+    /// Forgets, at a 0 that ends no flag, what no later bit can make matter. Outside a body that is all before this 0. In a body that is already
+    /// too long to pass it is a stretch from behind one 0 to the last 0 but one: that joins no ones that did not stand together.
     fn trim(&mut self) {
-        let Some(last) = last_zero(&self.bits) else {
-            return self.bits.clear();
-        };
+        let last = self.bits.len() - 1;
         if !self.in_body() {
             self.bits.drain(..last);
         } else if self.bits.len() > 4 * MANY {

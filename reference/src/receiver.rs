@@ -63,7 +63,7 @@ impl Heard {
     fn of(circuit: Circuit, slot: &ReceiverSlot, region: &[u8]) -> Heard {
         Heard {
             circuit,
-            seen: slot.seen == 1,
+            seen: slot.seen,
             last: slot.last,
             length: slot.length,
             message: region[..slot.place].to_vec(),
@@ -72,7 +72,7 @@ impl Heard {
 
     fn slot(&self) -> ReceiverSlot {
         ReceiverSlot {
-            seen: u8::from(self.seen),
+            seen: self.seen,
             last: self.last,
             length: self.length,
             place: self.message.len(),

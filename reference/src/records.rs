@@ -1,4 +1,5 @@
-//! The bytes of the two records, taken apart and judged (refusal 14).
+//! The bytes of the two records, taken apart and judged (refusal 14). 01's ranges are those of listed circuits: numbers in the places of a
+//! circuit that is not listed may have any values, and keep them.
 
 use crate::history::{History, FRAMING};
 use crate::packet::{listed, packet_count, Circuit};
@@ -119,6 +120,7 @@ impl SenderRecord {
         let circuits = circuits(record)?;
         let slots: Vec<_> = record[SLOTS..LAST_SERVED]
             .chunks(SENDER_SLOT)
+            .take(circuits.len())
             .map(SenderSlot::unpack)
             .collect();
         let last_served = usize::from(record[LAST_SERVED]);
@@ -134,8 +136,8 @@ impl SenderRecord {
 /// A slot of a receiver's record.
 #[derive(Clone, Copy, Debug, PartialEq, Eq)]
 pub struct ReceiverSlot {
-    /// 1 if a packet of the circuit came, else 0.
-    pub seen: u8,
+    /// Whether a packet of the circuit came.
+    pub seen: bool,
     /// Continuity index of the last one.
     pub last: u8,
     /// Length of the open message.
@@ -145,13 +147,14 @@ pub struct ReceiverSlot {
 }
 
 impl ReceiverSlot {
-    fn unpack(bytes: &[u8]) -> ReceiverSlot {
-        ReceiverSlot {
-            seen: bytes[0],
+    /// None if the first byte, which is a truth value, is neither 0 nor 1.
+    fn unpack(bytes: &[u8]) -> Option<ReceiverSlot> {
+        (bytes[0] <= 1).then(|| ReceiverSlot {
+            seen: bytes[0] == 1,
             last: bytes[1],
             length: number(&bytes[2..]),
             place: number(&bytes[4..]),
-        }
+        })
     }
 
     pub fn pack(&self) -> [u8; RECEIVER_SLOT] {
@@ -159,14 +162,11 @@ impl ReceiverSlot {
             (self.length as u16).to_le_bytes(),
             (self.place as u16).to_le_bytes(),
         );
-        [self.seen, self.last, l0, l1, p0, p1]
+        [u8::from(self.seen), self.last, l0, l1, p0, p1]
     }
 
     fn in_range(&self) -> bool {
-        self.seen <= 1
-            && self.last <= 7
-            && self.length <= LONGEST_MESSAGE
-            && self.place <= self.length
+        self.last <= 7 && self.length <= LONGEST_MESSAGE && self.place <= self.length
     }
 }
 
@@ -182,10 +182,9 @@ impl ReceiverRecord {
     /// None if the bytes are out of range.
     pub fn unpack(record: &[u8]) -> Option<ReceiverRecord> {
         let circuits = circuits(record)?;
-        let slots: Vec<_> = record[SLOTS..FRAMING_PLACE]
-            .chunks(RECEIVER_SLOT)
-            .map(ReceiverSlot::unpack)
-            .collect();
+        let slots = record[SLOTS..FRAMING_PLACE].chunks(RECEIVER_SLOT);
+        let mut slots: Vec<_> = slots.map(ReceiverSlot::unpack).collect::<Option<_>>()?;
+        slots.truncate(circuits.len());
         let mut framing = [0; FRAMING];
         framing.copy_from_slice(&record[FRAMING_PLACE..RECEIVER_RECORD]);
         let history = History::unpack(&framing)?;

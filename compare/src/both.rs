@@ -1,0 +1,220 @@
+//! Each call made by the library and by the reference, and everything that they answer and leave compared.
+
+use crate::library::Library;
+use crate::tally::{Function, Tally};
+use aes18_reference::calls::{self, BlockCall, OfferCall, ReadCall};
+use std::fmt::{Debug, Write};
+
+/// The first thing that differs.
+#[derive(Debug)]
+pub struct Difference {
+    /// The call and what it was given.
+    pub call: String,
+    /// What differs.
+    pub part: String,
+    pub library: String,
+    pub reference: String,
+}
+
+/// What a comparison answers: its value if there was no difference.
+pub type Compared<T> = Result<T, Box<Difference>>;
+
+/// Bytes before and behind what the library is lent, which it must not touch.
+const GUARD: [u8; 16] = [0xA5; 16];
+
+/// The library's own copy of lent bytes, between guards.
+struct Guarded(Vec<u8>);
+
+impl Guarded {
+    fn of(bytes: &[u8]) -> Guarded {
+        Guarded([&GUARD, bytes, &GUARD].concat())
+    }
+
+    fn lent(&mut self) -> &mut [u8] {
+        let end = self.0.len() - GUARD.len();
+        &mut self.0[GUARD.len()..end]
+    }
+
+    fn is(&self, bytes: &[u8]) -> bool {
+        let end = self.0.len() - GUARD.len();
+        self.0[GUARD.len()..end] == *bytes && self.0.starts_with(&GUARD) && self.0.ends_with(&GUARD)
+    }
+}
+
+pub fn hex(bytes: &[u8]) -> String {
+    let mut text = format!("{} bytes ", bytes.len());
+    for byte in bytes {
+        let _ = write!(text, "{byte:02x}");
+    }
+    text
+}
+
+/// The library beside the reference.
+#[derive(Default)]
+pub struct Both {
+    library: Library,
+    pub tally: Tally,
+}
+
+/// A call with both answers and what both left: the library's copy and the reference's bytes, under their name.
+struct Call<'a> {
+    function: Function,
+    given: &'a dyn Fn() -> String,
+    library: u32,
+    reference: u32,
+    left: &'a [(&'a str, &'a Guarded, &'a [u8])],
+}
+
+impl Both {
+    /// Counts the call and compares both sides; the value is the number answered.
+    fn compare(&mut self, call: Call<'_>) -> Compared<u32> {
+        self.tally.answered(call.function, call.reference);
+        let difference = |part: &str, library: String, reference: String| {
+            Box::new(Difference {
+                call: format!("{:?}: {}", call.function, (call.given)()),
+                part: part.to_string(),
+                library,
+                reference,
+            })
+        };
+        if call.library != call.reference {
+            return Err(difference(
+                "the number answered",
+                call.library.to_string(),
+                call.reference.to_string(),
+            ));
+        }
+        for (part, library, reference) in call.left {
+            if !library.is(reference) {
+                return Err(difference(
+                    part,
+                    hex(&library.0),
+                    hex(&Guarded::of(reference).0),
+                ));
+            }
+        }
+        Ok(call.reference)
+    }
+
+    pub fn sender_list(&mut self, record: &mut [u8], list: &[u8]) -> Compared<u32> {
+        let mut copy = Guarded::of(record);
+        let library = self.library.sender_list(copy.lent(), list);
+        let reference = calls::sender_list(record, list);
+        self.compare(Call {
+            function: Function::SenderList,
+            given: &|| hex(list),
+            library,
+            reference,
+            left: &[("the record", &copy, record)],
+        })
+    }
+
+    pub fn receiver_list(&mut self, record: &mut [u8], list: &[u8]) -> Compared<u32> {
+        let mut copy = Guarded::of(record);
+        let library = self.library.receiver_list(copy.lent(), list);
+        let reference = calls::receiver_list(record, list);
+        self.compare(Call {
+            function: Function::ReceiverList,
+            given: &|| hex(list),
+            library,
+            reference,
+            left: &[("the record", &copy, record)],
+        })
+    }
+
+    pub fn sender_offer(
+        &mut self,
+        record: &mut [u8],
+        store: &mut [u8],
+        call: OfferCall<'_>,
+    ) -> Compared<u32> {
+        let before = record.to_vec();
+        let (mut copy, mut store_copy) = (Guarded::of(record), Guarded::of(store));
+        let library = self
+            .library
+            .sender_offer(copy.lent(), store_copy.lent(), call);
+        let reference = calls::sender_offer(record, store, call);
+        self.compare(Call {
+            function: Function::SenderOffer,
+            given: &|| given(&before, store, &call),
+            library,
+            reference,
+            left: &[
+                ("the record", &copy, record),
+                ("the store", &store_copy, store),
+            ],
+        })
+    }
+
+    pub fn sender_block(
+        &mut self,
+        record: &mut [u8],
+        store: &[u8],
+        call: BlockCall<'_>,
+        block: &mut [u8],
+        answer: &mut [u8],
+    ) -> Compared<u32> {
+        let before = record.to_vec();
+        let (mut copy, mut block_copy, mut answer_copy) =
+            (Guarded::of(record), Guarded::of(block), Guarded::of(answer));
+        let library = self.library.sender_block(
+            copy.lent(),
+            store,
+            call,
+            block_copy.lent(),
+            answer_copy.lent(),
+        );
+        let reference = calls::sender_block(record, store, call, block, answer);
+        self.compare(Call {
+            function: Function::SenderBlock,
+            given: &|| given(&before, store, &call),
+            library,
+            reference,
+            left: &[
+                ("the record", &copy, record),
+                ("the answer's bytes", &answer_copy, answer),
+                ("the block", &block_copy, block),
+            ],
+        })
+    }
+
+    pub fn receiver_read(
+        &mut self,
+        record: &mut [u8],
+        store: &mut [u8],
+        call: ReadCall<'_>,
+        answer: &mut [u8],
+    ) -> Compared<u32> {
+        let before = record.to_vec();
+        let (mut copy, mut store_copy, mut answer_copy) =
+            (Guarded::of(record), Guarded::of(store), Guarded::of(answer));
+        let library =
+            self.library
+                .receiver_read(copy.lent(), store_copy.lent(), call, answer_copy.lent());
+        let reference = calls::receiver_read(record, store, call, answer);
+        let number = self.compare(Call {
+            function: Function::ReceiverRead,
+            given: &|| given(&before, store, &call),
+            library,
+            reference,
+            left: &[
+                ("the record", &copy, record),
+                ("the answer's bytes", &answer_copy, answer),
+                ("the store", &store_copy, store),
+            ],
+        })?;
+        if number == 0 {
+            self.tally.told(answer);
+        }
+        Ok(number)
+    }
+}
+
+/// What a call was given, for the message about a difference.
+fn given(record: &[u8], store: &[u8], call: &dyn Debug) -> String {
+    format!(
+        "record {}, store {} bytes, {call:?}",
+        hex(record),
+        store.len()
+    )
+}

@@ -1,0 +1,140 @@
+//! Compares the proved library with the reference, call by call.
+//!
+//!     compare                         the gate: fixed seeds, everything must have been seen
+//!     compare soak [SECONDS] [SEED]   other seeds until the time is up; a SEED that showed a difference shows it again
+
+mod both;
+mod damage;
+mod inputs;
+mod library;
+mod random;
+mod sessions;
+mod stream;
+mod tally;
+mod trials;
+
+use both::{Both, Compared, Difference};
+use random::Random;
+use std::env;
+use std::process::ExitCode;
+use std::time::{Duration, Instant, SystemTime, UNIX_EPOCH};
+use trials::{cuts, lengths, listing, passes, reading, records, sending};
+
+/// A trial under its name, and how often it is made in a lap.
+type Trial = (
+    &'static str,
+    usize,
+    fn(&mut Both, &mut Random) -> Compared<()>,
+);
+
+const TRIALS: [Trial; 11] = [
+    ("listing", 10, listing::any),
+    ("sending", 20, sending::session),
+    ("reading", 10, reading::session),
+    ("noise", 5, reading::noise),
+    ("cuts", 1, cuts::every_place),
+    ("any sender's record", 60, records::any_sender),
+    ("any receiver's record", 60, records::any_receiver),
+    ("exact fit", 10, records::exact_fit),
+    (
+        "every byte of a sender's record",
+        1,
+        records::every_sender_byte,
+    ),
+    (
+        "every byte of a receiver's record",
+        1,
+        records::every_receiver_byte,
+    ),
+    ("passes", 150, passes::pass),
+];
+/// Laps of the gate.
+const LAPS: u64 = 16;
+
+fn show(seed: u64, trial: &str, round: usize, difference: &Difference) -> String {
+    let Difference {
+        call,
+        part,
+        library,
+        reference,
+    } = difference;
+    format!("seed {seed}, {trial} {round}: {part} differs\n{call}\n  library:   {library}\n  reference: {reference}")
+}
+
+/// Makes every trial as often as a lap has it, with values that follow from the seed.
+fn lap(both: &mut Both, seed: u64) -> Result<(), String> {
+    for (number, (name, times, trial)) in TRIALS.iter().enumerate() {
+        for round in 0..*times {
+            let mixed = Random::new(seed).next() ^ (number << 32 | round) as u64;
+            trial(both, &mut Random::new(mixed))
+                .map_err(|difference| show(seed, name, round, &difference))?;
+        }
+    }
+    Ok(())
+}
+
+fn gate() -> Result<(), String> {
+    let mut both = Both::default();
+    listing::all(&mut both).map_err(|difference| show(0, "every circuit", 0, &difference))?;
+    lengths::all(&mut both, &mut Random::new(0))
+        .map_err(|difference| show(0, "every length", 0, &difference))?;
+    for seed in 1..=LAPS {
+        lap(&mut both, seed)?;
+    }
+    println!("{}", both.tally);
+    let missing = both.tally.missing();
+    if missing.is_empty() {
+        println!("no difference in {} calls", both.tally.calls());
+        return Ok(());
+    }
+    Err(missing.join("\n"))
+}
+
+fn soak(seconds: u64, seed: u64) -> Result<(), String> {
+    println!("from seed {seed}, for {seconds} seconds");
+    let mut both = Both::default();
+    let (start, mut next) = (Instant::now(), seed);
+    while next == seed || start.elapsed() < Duration::from_secs(seconds) {
+        lap(&mut both, next)?;
+        next = next.wrapping_add(1);
+    }
+    println!("{}", both.tally);
+    println!(
+        "no difference in {} calls, seeds {seed} to {}",
+        both.tally.calls(),
+        next.wrapping_sub(1)
+    );
+    Ok(())
+}
+
+/// A number among the arguments, or `otherwise` where there is none.
+fn number(argument: Option<&String>, otherwise: u64) -> Result<u64, String> {
+    argument.map_or(Ok(otherwise), |text| {
+        text.parse()
+            .map_err(|_| format!("'{text}' is not a number"))
+    })
+}
+
+fn run(arguments: &[String]) -> Result<(), String> {
+    let now = SystemTime::now()
+        .duration_since(UNIX_EPOCH)
+        .map_or(0, |time| time.as_secs());
+    match arguments {
+        [] => gate(),
+        [word, rest @ ..] if word == "soak" && rest.len() <= 2 => {
+            soak(number(rest.first(), 60)?, number(rest.get(1), now)?)
+        }
+        _ => Err("usage: compare, or compare soak [SECONDS] [SEED]".to_string()),
+    }
+}
+
+fn main() -> ExitCode {
+    let arguments: Vec<String> = env::args().skip(1).collect();
+    match run(&arguments) {
+        Ok(()) => ExitCode::SUCCESS,
+        Err(message) => {
+            eprintln!("compare: {message}");
+            ExitCode::FAILURE
+        }
+    }
+}

@@ -1,0 +1,160 @@
+//! What was seen: how many calls of each function, how often each answer, notice and fate.
+
+use std::collections::BTreeMap;
+use std::fmt;
+
+#[derive(Clone, Copy, Debug, PartialEq, Eq, PartialOrd, Ord)]
+pub enum Function {
+    SenderList,
+    SenderOffer,
+    SenderBlock,
+    ReceiverList,
+    ReceiverRead,
+}
+
+/// Each function with the numbers it can answer.
+const ANSWERS: [(Function, &[u32]); 5] = [
+    (Function::SenderList, &[0, 1, 2, 3, 4, 255]),
+    (Function::SenderOffer, &[0, 5, 6, 7, 8, 9, 10, 14, 255]),
+    (Function::SenderBlock, &[0, 5, 11, 12, 13, 14, 255]),
+    (Function::ReceiverList, &[0, 1, 2, 3, 4, 255]),
+    (Function::ReceiverRead, &[0, 5, 14, 15, 255]),
+];
+const NOTICES: [&str; 6] = [
+    "End",
+    "Spoilt",
+    "Malformed",
+    "System",
+    "Elsewhere",
+    "circuit",
+];
+const FATES: [&str; 6] = ["Copy", "Begun", "Held", "Whole", "Orphan", "Wrong"];
+
+/// What was seen of demand 3.
+#[derive(Default)]
+pub struct Claim {
+    /// Passes in which no body passes but those of frames that came whole, and the others.
+    pub passes: u64,
+    pub other_frames: u64,
+    /// Addresses held against the claim in the former, and those at which more than six packets in a row were lost.
+    pub addresses: u64,
+    pub more_than_six: u64,
+    /// Of the addresses held: those with packets lost in between, and with all packets of some message lost in between.
+    pub with_packets_lost: u64,
+    pub with_messages_gone: u64,
+    /// Messages handed over.
+    pub messages: u64,
+}
+
+impl Claim {
+    /// The counts of which a comparison that covers everything has enough.
+    fn wanted(&self) -> [(&'static str, u64, u64); 4] {
+        [
+            ("passes", self.passes, 1000),
+            ("messages handed over", self.messages, 5000),
+            ("addresses with packets lost", self.with_packets_lost, 1000),
+            (
+                "addresses with whole messages lost",
+                self.with_messages_gone,
+                200,
+            ),
+        ]
+    }
+}
+
+impl fmt::Display for Claim {
+    fn fmt(&self, out: &mut fmt::Formatter<'_>) -> fmt::Result {
+        write!(
+            out,
+            "demand 3: held at {} addresses of {} passes, at {} with packets lost, at {} with whole messages lost, {} messages handed over; \
+             not asked for: {} passes in which another frame passed, {} addresses with more than six lost in a row",
+            self.addresses,
+            self.passes,
+            self.with_packets_lost,
+            self.with_messages_gone,
+            self.messages,
+            self.other_frames,
+            self.more_than_six
+        )
+    }
+}
+
+#[derive(Default)]
+pub struct Tally {
+    answers: BTreeMap<(Function, u32), u64>,
+    notices: [u64; 6],
+    fates: [u64; 6],
+    pub claim: Claim,
+}
+
+impl Tally {
+    pub fn answered(&mut self, function: Function, number: u32) {
+        *self.answers.entry((function, number)).or_default() += 1;
+    }
+
+    /// Counts the notice that the bytes of a read's answer tell.
+    pub fn told(&mut self, answer: &[u8]) {
+        self.notices[usize::from(answer[0])] += 1;
+        if answer[0] == 5 {
+            self.fates[usize::from(answer[3])] += 1;
+        }
+    }
+
+    pub fn calls(&self) -> u64 {
+        self.answers.values().sum()
+    }
+
+    /// What a comparison that covers everything has seen, and this one has not.
+    pub fn missing(&self) -> Vec<String> {
+        let answers = ANSWERS
+            .iter()
+            .flat_map(|(function, numbers)| numbers.iter().map(move |number| (*function, *number)))
+            .filter(|answer| !self.answers.contains_key(answer))
+            .map(|(function, number)| format!("{function:?} never answered {number}"));
+        let notices = unseen(&NOTICES, &self.notices).chain(unseen(&FATES, &self.fates));
+        let few = self
+            .claim
+            .wanted()
+            .into_iter()
+            .filter(|(_, count, wanted)| count < wanted);
+        let few = few
+            .map(|(name, count, wanted)| format!("demand 3: {count} {name}, fewer than {wanted}"));
+        answers.chain(notices).chain(few).collect()
+    }
+}
+
+fn unseen<'a>(names: &'a [&str], counts: &'a [u64]) -> impl Iterator<Item = String> + 'a {
+    let never = names.iter().zip(counts).filter(|(_, count)| **count == 0);
+    never.map(|(name, _)| format!("{name} never came"))
+}
+
+/// Names with their counts, in a line.
+fn line(names: &[&str], counts: &[u64]) -> String {
+    let parts: Vec<String> = names
+        .iter()
+        .zip(counts)
+        .map(|(name, count)| format!("{name} {count}"))
+        .collect();
+    parts.join(", ")
+}
+
+impl fmt::Display for Tally {
+    fn fmt(&self, out: &mut fmt::Formatter<'_>) -> fmt::Result {
+        for (function, _) in ANSWERS {
+            let of_function = self.answers.range((function, 0)..=(function, u32::MAX));
+            let parts: Vec<String> = of_function
+                .clone()
+                .map(|((_, number), count)| format!("{number}: {count}"))
+                .collect();
+            let calls: u64 = of_function.map(|(_, count)| count).sum();
+            writeln!(
+                out,
+                "{function:?}: {calls} calls; answers {}",
+                parts.join(", ")
+            )?;
+        }
+        writeln!(out, "notices: {}", line(&NOTICES, &self.notices))?;
+        writeln!(out, "fates: {}", line(&FATES, &self.fates))?;
+        write!(out, "{}", self.claim)
+    }
+}

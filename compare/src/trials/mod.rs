@@ -1,0 +1,9 @@
+//! The trials: each makes calls of one kind with values that follow from a seed.
+
+pub mod cuts;
+pub mod lengths;
+pub mod listing;
+pub mod passes;
+pub mod reading;
+pub mod records;
+pub mod sending;
