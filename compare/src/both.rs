@@ -3,7 +3,7 @@
 use crate::library::Library;
 use crate::tally::{Function, Tally};
 use aes18_reference::calls::{self, BlockCall, OfferCall, ReadCall};
-use std::fmt::{Debug, Write};
+use std::fmt::Debug;
 
 /// The first thing that differs.
 #[derive(Debug)]
@@ -18,6 +18,16 @@ pub struct Difference {
 
 /// What a comparison answers: its value if there was no difference.
 pub type Compared<T> = Result<T, Box<Difference>>;
+
+/// Tells a difference.
+pub fn differ<T>(call: String, part: &str, library: String, reference: String) -> Compared<T> {
+    Err(Box::new(Difference {
+        call,
+        part: part.to_string(),
+        library,
+        reference,
+    }))
+}
 
 /// Bytes before and behind what the library is lent, which it must not touch.
 const GUARD: [u8; 16] = [0xA5; 16];
@@ -35,18 +45,35 @@ impl Guarded {
         &mut self.0[GUARD.len()..end]
     }
 
-    fn is(&self, bytes: &[u8]) -> bool {
-        let end = self.0.len() - GUARD.len();
-        self.0[GUARD.len()..end] == *bytes && self.0.starts_with(&GUARD) && self.0.ends_with(&GUARD)
+    fn left(&self) -> &[u8] {
+        &self.0[GUARD.len()..self.0.len() - GUARD.len()]
+    }
+
+    fn guards_stand(&self) -> bool {
+        self.0.starts_with(&GUARD) && self.0.ends_with(&GUARD)
     }
 }
 
 pub fn hex(bytes: &[u8]) -> String {
-    let mut text = format!("{} bytes ", bytes.len());
-    for byte in bytes {
-        let _ = write!(text, "{byte:02x}");
+    bytes.iter().map(|byte| format!("{byte:02x}")).collect()
+}
+
+/// The bytes, or of many those from the first on that differ from `others`.
+pub fn shown(bytes: &[u8], others: &[u8]) -> String {
+    if bytes.len() <= 80 {
+        return hex(bytes);
     }
-    text
+    let same = bytes
+        .iter()
+        .zip(others)
+        .take_while(|(one, other)| one == other)
+        .count();
+    let end = bytes.len().min(same + 32);
+    format!(
+        "from byte {same} of {}: {}",
+        bytes.len(),
+        hex(&bytes[same..end])
+    )
 }
 
 /// The library beside the reference.
@@ -69,28 +96,28 @@ impl Both {
     /// Counts the call and compares both sides; the value is the number answered.
     fn compare(&mut self, call: Call<'_>) -> Compared<u32> {
         self.tally.answered(call.function, call.reference);
-        let difference = |part: &str, library: String, reference: String| {
-            Box::new(Difference {
-                call: format!("{:?}: {}", call.function, (call.given)()),
-                part: part.to_string(),
-                library,
-                reference,
-            })
-        };
+        let given = || format!("{:?}: {}", call.function, (call.given)());
         if call.library != call.reference {
-            return Err(difference(
-                "the number answered",
-                call.library.to_string(),
-                call.reference.to_string(),
-            ));
+            let (library, reference) = (call.library.to_string(), call.reference.to_string());
+            return differ(given(), "the number answered", library, reference);
         }
         for (part, library, reference) in call.left {
-            if !library.is(reference) {
-                return Err(difference(
+            let left = library.left();
+            if left != *reference {
+                return differ(
+                    given(),
                     part,
-                    hex(&library.0),
-                    hex(&Guarded::of(reference).0),
-                ));
+                    shown(left, reference),
+                    shown(reference, left),
+                );
+            }
+            if !library.guards_stand() {
+                return differ(
+                    given(),
+                    part,
+                    "bytes around it are written".to_string(),
+                    "none are".to_string(),
+                );
             }
         }
         Ok(call.reference)

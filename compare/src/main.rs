@@ -18,7 +18,7 @@ use random::Random;
 use std::env;
 use std::process::ExitCode;
 use std::time::{Duration, Instant, SystemTime, UNIX_EPOCH};
-use trials::{cuts, lengths, listing, passes, reading, records, sending};
+use trials::{cuts, lengths, listing, packets, passes, reading, records, sending};
 
 /// A trial under its name, and how often it is made in a lap.
 type Trial = (
@@ -27,7 +27,7 @@ type Trial = (
     fn(&mut Both, &mut Random) -> Compared<()>,
 );
 
-const TRIALS: [Trial; 11] = [
+const TRIALS: [Trial; 13] = [
     ("listing", 10, listing::any),
     ("sending", 20, sending::session),
     ("reading", 10, reading::session),
@@ -35,6 +35,8 @@ const TRIALS: [Trial; 11] = [
     ("cuts", 1, cuts::every_place),
     ("any sender's record", 60, records::any_sender),
     ("any receiver's record", 60, records::any_receiver),
+    ("edges of a sender's slot", 4, records::sender_edges),
+    ("edges of a receiver's slot", 4, records::receiver_edges),
     ("exact fit", 10, records::exact_fit),
     (
         "every byte of a sender's record",
@@ -58,7 +60,7 @@ fn show(seed: u64, trial: &str, round: usize, difference: &Difference) -> String
         library,
         reference,
     } = difference;
-    format!("seed {seed}, {trial} {round}: {part} differs\n{call}\n  library:   {library}\n  reference: {reference}")
+    format!("seed {seed}, {trial}, round {round}: difference in {part}\n{call}\n  library:   {library}\n  reference: {reference}")
 }
 
 /// Makes every trial as often as a lap has it, with values that follow from the seed.
@@ -76,6 +78,7 @@ fn lap(both: &mut Both, seed: u64) -> Result<(), String> {
 fn gate() -> Result<(), String> {
     let mut both = Both::default();
     listing::all(&mut both).map_err(|difference| show(0, "every circuit", 0, &difference))?;
+    packets::all(&mut both).map_err(|difference| show(0, "every packet", 0, &difference))?;
     lengths::all(&mut both, &mut Random::new(0))
         .map_err(|difference| show(0, "every length", 0, &difference))?;
     for seed in 1..=LAPS {

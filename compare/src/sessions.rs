@@ -1,7 +1,7 @@
 //! A sender and a receiver that go from call to call. Beside the calls on the record's bytes runs the reference that keeps its own queues
 //! and bits from the listing on; what its record would be, and what it answers, is compared after each call.
 
-use crate::both::{hex, Both, Compared, Difference};
+use crate::both::{differ, shown, Both, Compared};
 use crate::random::Random;
 use aes18_reference::bits::bytes_of;
 use aes18_reference::calls::{block_answer, number, read_answer};
@@ -16,12 +16,13 @@ fn same(part: &str, library: &[u8], history: &[u8]) -> Compared<()> {
     if library == history {
         return Ok(());
     }
-    Err(Box::new(Difference {
-        call: "a call beside the reference that keeps its own queues and bits".to_string(),
-        part: part.to_string(),
-        library: hex(library),
-        reference: hex(history),
-    }))
+    let call = "a call beside the reference that keeps its own queues and bits";
+    differ(
+        call.to_string(),
+        part,
+        shown(library, history),
+        shown(history, library),
+    )
 }
 
 fn same_number(library: u32, history: u32) -> Compared<()> {

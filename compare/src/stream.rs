@@ -80,18 +80,18 @@ fn spoilt_frame(random: &mut Random, circuits: &[Circuit]) -> Vec<bool> {
     body
 }
 
-/// A frame that ends in five ones, with the 0 behind them or without it.
+/// A frame that ends in five ones, with the 0 behind them or without it; one in 32 does, so that some hundred hold one.
 fn frame_ending_in_ones(random: &mut Random) -> Vec<bool> {
-    loop {
+    let mut body = vec![];
+    for _ in 0..400 {
         let length = 3 + random.below(16);
-        let mut body = frame(&random.bytes(length));
+        body = frame(&random.bytes(length));
         if body.ends_with(&[true, true, true, true, true, false]) {
-            if random.once_in(2) {
-                body.pop();
-            }
-            return body;
+            body.truncate(body.len() - random.below(2));
+            break;
         }
     }
+    body
 }
 
 /// A circuit's address and extension: mostly a listed one.
@@ -109,25 +109,24 @@ fn circuit(random: &mut Random, circuits: &[Circuit]) -> Circuit {
 /// A packet with any control byte and a segment of 0 to 17 bytes, headers of all kinds among them.
 fn any_packet(random: &mut Random, circuits: &[Circuit]) -> Vec<u8> {
     let circuit = circuit(random, circuits);
-    let control = random.byte() & 0xDF;
+    let control = random.pick(&[0x80, 0x80, 0x80, 0x40, 0x00, 0xC0]) | random.byte() & 0x1F;
     let mut packet = match circuit.extension {
         None => vec![circuit.address, control],
         Some(extension) => vec![circuit.address, control | 0x20, extension],
     };
-    let length = random.pick(&[0, 1, 2, 3, 8, 14, 15, 16, 16, 16, 17]);
+    let length = random.pick(&[0, 1, 2, 3, 8, 14, 15, 16, 16, 16, 16, 16, 17]);
     let start = packet.len();
     packet.extend(random.bytes(length));
     packet.truncate(19);
     let header = match random.below(8) {
-        0 => [0x10, random.byte() & 31],
-        1 => [0x1F, 0xFF],
-        2 => [0x1F, 0xFE],
-        3 => [0x10 | random.byte(), random.byte()],
+        0 => [0x10, random.pick(&[0, 1, 14, 15, 16, 17])],
+        1 => [0x1F, random.pick(&[0xFE, 0xFF])],
+        2..=3 => [0x10 | random.byte(), random.byte()],
         4..=6 => [
             length.saturating_sub(random.below(3)) as u8 & 15,
             random.byte(),
         ],
-        _ => return packet,
+        _ => [random.byte(), random.byte()],
     };
     for (byte, value) in packet[start..].iter_mut().zip(header) {
         *byte = value;

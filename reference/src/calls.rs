@@ -87,7 +87,13 @@ pub fn sender_offer(record: &mut [u8], store: &mut [u8], call: OfferCall<'_>) ->
         return TOO_SHORT;
     }
     let offered = Sender::resume(record, store).and_then(|mut sender| {
-        sender.offer(store, call.circuit, call.priority, call.repetition, call.message)?;
+        sender.offer(
+            store,
+            call.circuit,
+            call.priority,
+            call.repetition,
+            call.message,
+        )?;
         record[..SENDER_RECORD].copy_from_slice(&sender.record());
         Ok(())
     });
@@ -153,7 +159,12 @@ pub struct ReadCall<'a> {
     pub to: u64,
 }
 
-pub fn receiver_read(record: &mut [u8], store: &mut [u8], call: ReadCall<'_>, answer: &mut [u8]) -> u32 {
+pub fn receiver_read(
+    record: &mut [u8],
+    store: &mut [u8],
+    call: ReadCall<'_>,
+    answer: &mut [u8],
+) -> u32 {
     if record.len() < RECEIVER_RECORD || answer.len() < READ_ANSWER {
         return TOO_SHORT;
     }

@@ -123,7 +123,7 @@ impl Heard {
             }
             _ => Fate::Wrong,
         };
-        if matches!(fate, Fate::Whole(_) | Fate::Wrong) {
+        if !matches!(fate, Fate::Begun | Fate::Held) {
             self.close();
         }
         (loss, fate)
@@ -158,7 +158,7 @@ impl Heard {
 pub struct Receiver {
     circuits: Vec<Heard>,
     history: History,
-    /// The record as the last call left it.
+    /// The record that it was built from.
     record: [u8; RECEIVER_RECORD],
 }
 
@@ -193,7 +193,7 @@ impl Receiver {
         })
     }
 
-    /// The record's bytes. Slots that no circuit has stay as they were given.
+    /// The record's bytes; the places of circuits that are not listed stay as they were.
     pub fn record(&self) -> [u8; RECEIVER_RECORD] {
         let mut record = self.record;
         let slots = record[SLOTS..].chunks_mut(RECEIVER_SLOT);

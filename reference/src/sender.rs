@@ -113,7 +113,7 @@ impl Writing {
 pub struct Sender {
     queues: Vec<Queue>,
     last_served: usize,
-    /// The record as the last call left it.
+    /// The record that it was built from.
     record: [u8; SENDER_RECORD],
 }
 
@@ -148,7 +148,7 @@ impl Sender {
         })
     }
 
-    /// The record's bytes. Slots that no circuit has stay as they were given.
+    /// The record's bytes; the places of circuits that are not listed stay as they were.
     pub fn record(&self) -> [u8; SENDER_RECORD] {
         let mut record = self.record;
         let slots = record[SLOTS..].chunks_mut(SENDER_SLOT);

@@ -1,6 +1,6 @@
 //! One stream cut at every place, and read one bit a call.
 
-use crate::both::{Both, Compared, Difference};
+use crate::both::{differ, Both, Compared};
 use crate::inputs;
 use crate::random::Random;
 use crate::sessions::Reading;
@@ -30,12 +30,13 @@ fn same(cut: &str, told: &[Notice], uncut: &[Notice]) -> Compared<()> {
     if told == uncut {
         return Ok(());
     }
-    Err(Box::new(Difference {
-        call: format!("a stream {cut}"),
-        part: "notices".to_string(),
-        library: format!("{told:?}"),
-        reference: format!("{uncut:?} uncut"),
-    }))
+    let call = format!("a stream {cut}, and beside it the same uncut");
+    differ(
+        call,
+        "the notices",
+        format!("{told:?}"),
+        format!("{uncut:?}"),
+    )
 }
 
 /// The notices of a fresh receiver that reads up to each of these ends.

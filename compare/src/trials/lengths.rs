@@ -1,6 +1,6 @@
 //! A message of each length sent and read back.
 
-use crate::both::{Both, Compared, Difference};
+use crate::both::{differ, Both, Compared};
 use crate::inputs;
 use crate::random::Random;
 use crate::sessions::{Reading, Sending};
@@ -24,12 +24,13 @@ pub fn all(both: &mut Both, random: &mut Random) -> Compared<()> {
         sending.offer(both, call)?;
         let handed_over = handed_over(both, &mut sending, &mut reading)?;
         if handed_over != [(circuit, message)] {
-            return Err(Box::new(Difference {
-                call: format!("a message of {length} bytes at circuit {circuit}"),
-                part: "what is handed over".to_string(),
-                library: format!("{handed_over:02x?}"),
-                reference: "that message".to_string(),
-            }));
+            let call = format!("a message of {length} bytes at circuit {circuit}");
+            return differ(
+                call,
+                "what is handed over",
+                format!("{handed_over:02x?}"),
+                "that message".to_string(),
+            );
         }
     }
     Ok(())

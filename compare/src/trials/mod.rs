@@ -3,6 +3,7 @@
 pub mod cuts;
 pub mod lengths;
 pub mod listing;
+pub mod packets;
 pub mod passes;
 pub mod reading;
 pub mod records;

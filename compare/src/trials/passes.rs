@@ -2,7 +2,7 @@
 //! no other body passes, then at each address at which never more than six packets in a row are lost, the losses told add up to the packets
 //! lost between the first and the last to come, and exactly the messages of which every packet came are handed over, in order.
 
-use crate::both::{Both, Compared, Difference};
+use crate::both::{differ, Both, Compared};
 use crate::damage::{drop_or_double, joined, tear, values, Bit};
 use crate::inputs;
 use crate::random::Random;
@@ -302,10 +302,11 @@ fn hold(circuit: Circuit, told: Told, expected: Told) -> Compared<()> {
     if told == expected {
         return Ok(());
     }
-    Err(Box::new(Difference {
-        call: format!("demand 3 at {circuit:02x?}"),
-        part: "losses and messages handed over".to_string(),
-        library: format!("{told:02x?}"),
-        reference: format!("{expected:02x?}"),
-    }))
+    let call = format!("demand 3 at {circuit:02x?}");
+    differ(
+        call,
+        "losses and messages handed over",
+        format!("{told:02x?}"),
+        format!("{expected:02x?}"),
+    )
 }

@@ -7,7 +7,7 @@ use crate::stream::stream;
 use aes18_reference::bits::bytes_of;
 use aes18_reference::calls::{BlockCall, OfferCall, ReadCall, BLOCK_ANSWER, READ_ANSWER};
 use aes18_reference::receiver::Receiver;
-use aes18_reference::records::{RECEIVER_RECORD, SENDER_RECORD};
+use aes18_reference::records::{RECEIVER_RECORD, RECEIVER_SLOT, SENDER_RECORD, SENDER_SLOT, SLOTS};
 use aes18_reference::sender::Sender;
 use aes18_reference::{RECEIVER_STORE, SENDER_STORE};
 
@@ -213,6 +213,59 @@ fn read_to_end(
 /// Each place of a record of this length, with each value.
 fn every_byte(length: usize) -> impl Iterator<Item = (usize, u8)> {
     (0..length).flat_map(|at| (0..=255).map(move |value| (at, value)))
+}
+
+/// Numbers at the edges of lengths and places.
+const EDGES: [u16; 15] = [
+    0, 1, 2, 15, 16, 17, 30, 31, 255, 256, 257, 4093, 4094, 4095, 65_535,
+];
+
+/// Slots of a sender's record with lengths and places at the edges.
+pub fn sender_edges(both: &mut Both, random: &mut Random) -> Compared<()> {
+    let base = sender(random);
+    let slot = random.below(base.list.len() / 3);
+    for (length, place) in EDGES
+        .iter()
+        .flat_map(|length| EDGES.map(|place| (*length, place)))
+    {
+        let mut record = base.record.clone();
+        put(&mut record, SLOTS + SENDER_SLOT * slot + 4, length, place);
+        both.sender_block(
+            &mut record,
+            &base.store,
+            plain(700, 700),
+            &mut [0x5A; 88],
+            &mut [0x5A; 8],
+        )?;
+    }
+    Ok(())
+}
+
+/// Slots of a receiver's record with lengths and places at the edges; what is read has packets of its circuits.
+pub fn receiver_edges(both: &mut Both, random: &mut Random) -> Compared<()> {
+    let base = receiver(random);
+    let slot = random.below(base.list.len() / 3);
+    let bits = bytes_of(&stream(random, &inputs::circuits(&base.list)));
+    let call = ReadCall {
+        bits: &bits,
+        from: 0,
+        to: (8 * bits.len() as u64).min(1000),
+    };
+    for (length, place) in EDGES
+        .iter()
+        .flat_map(|length| EDGES.map(|place| (*length, place)))
+    {
+        let mut record = base.record.clone();
+        put(&mut record, SLOTS + RECEIVER_SLOT * slot + 2, length, place);
+        read_to_end(both, &mut record, &mut base.store.clone(), call)?;
+    }
+    Ok(())
+}
+
+/// Puts a length and the place behind it into a record.
+fn put(record: &mut [u8], at: usize, length: u16, place: u16) {
+    record[at..at + 2].copy_from_slice(&length.to_le_bytes());
+    record[at + 2..at + 4].copy_from_slice(&place.to_le_bytes());
 }
 
 /// Blocks in which the frames exactly fill the bits that may be used, or lack one, or leave one.
