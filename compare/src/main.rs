@@ -5,10 +5,11 @@
 
 mod both;
 mod damage;
+mod ends;
 mod inputs;
 mod library;
 mod random;
-mod sessions;
+
 mod stream;
 mod tally;
 mod trials;
@@ -29,8 +30,8 @@ type Trial = (
 
 const TRIALS: [Trial; 13] = [
     ("listing", 10, listing::any),
-    ("sending", 20, sending::session),
-    ("reading", 10, reading::session),
+    ("sending", 20, sending::run),
+    ("reading", 10, reading::run),
     ("noise", 5, reading::noise),
     ("cuts", 1, cuts::every_place),
     ("any sender's record", 60, records::any_sender),

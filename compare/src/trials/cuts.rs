@@ -1,9 +1,9 @@
 //! One stream cut at every place, and read one bit a call.
 
 use crate::both::{differ, Both, Compared};
+use crate::ends::Reading;
 use crate::inputs;
 use crate::random::Random;
-use crate::sessions::Reading;
 use crate::stream::stream;
 use aes18_reference::bits::bytes_of;
 use aes18_reference::calls::ReadCall;

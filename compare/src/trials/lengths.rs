@@ -1,9 +1,9 @@
 //! A message of each length sent and read back.
 
 use crate::both::{differ, Both, Compared};
+use crate::ends::{Reading, Sending};
 use crate::inputs;
 use crate::random::Random;
-use crate::sessions::{Reading, Sending};
 use aes18_reference::calls::{BlockCall, OfferCall, ReadCall};
 use aes18_reference::receiver::{Fate, Notice};
 use aes18_reference::{LONGEST_MESSAGE, REGION};

@@ -4,9 +4,9 @@
 
 use crate::both::{differ, Both, Compared};
 use crate::damage::{drop_or_double, joined, tear, values, Bit};
+use crate::ends::{Reading, Sending};
 use crate::inputs;
 use crate::random::Random;
-use crate::sessions::{Reading, Sending};
 use aes18_reference::bits::bits_of;
 use aes18_reference::calls::{BlockCall, OfferCall};
 use aes18_reference::hdlc::{bodies, judge, Judged, FLAG};

@@ -1,12 +1,12 @@
 //! A receiver from its listing on: streams of every kind in pieces of every size.
 
 use crate::both::{Both, Compared};
+use crate::ends::Reading;
 use crate::inputs;
 use crate::random::Random;
-use crate::sessions::Reading;
 use crate::stream::stream;
 
-pub fn session(both: &mut Both, random: &mut Random) -> Compared<()> {
+pub fn run(both: &mut Both, random: &mut Random) -> Compared<()> {
     let list = inputs::list(random);
     let mut reading = Reading::list(both, random, &list)?;
     for _ in 0..4 {

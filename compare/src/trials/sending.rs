@@ -1,12 +1,12 @@
 //! A sender from its listing on: offers and blocks, refused ones among them.
 
 use crate::both::{Both, Compared};
+use crate::ends::Sending;
 use crate::inputs;
 use crate::random::Random;
-use crate::sessions::Sending;
 use aes18_reference::calls::OfferCall;
 
-pub fn session(both: &mut Both, random: &mut Random) -> Compared<()> {
+pub fn run(both: &mut Both, random: &mut Random) -> Compared<()> {
     let list = inputs::list(random);
     let mut sending = Sending::list(both, random, &list)?;
     for _ in 0..40 {
