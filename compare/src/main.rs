@@ -9,7 +9,6 @@ mod ends;
 mod inputs;
 mod library;
 mod random;
-
 mod stream;
 mod tally;
 mod trials;
