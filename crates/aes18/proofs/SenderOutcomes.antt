@@ -29,7 +29,7 @@ use Rattle.aes18.specs.SenderCalls.{
   offerStore,
   blockNumber,
   blockRecord,
-  blockBlock,
+  blockWritten,
   blockAnswer,
 }
 use Rattle.aes18.proofs.Clipping.{offerRefusal-clipped, senderAfterOffer-clipped, storeAfterOffer-clipped, BlockCalled-clipped}
@@ -126,27 +126,27 @@ module _ (bytes store : List ℕ) (n u : ℕ) (y : System) (block answer : List 
   abbrev Blocked : ℕ → List ℕ → List ℕ → List ℕ → Type 0
   Blocked number new newBlock newAnswer =
       (number ≡ blockNumber bytes store n u y block answer) × (new ≡ blockRecord bytes store n u y block answer)
-      × (newBlock ≡ blockBlock bytes store n u y block answer) × (newAnswer ≡ blockAnswer bytes store n u y block answer)
+      × (newBlock ≡ blockWritten bytes store n u y block answer) × (newAnswer ≡ blockAnswer bytes store n u y block answer)
 
   pub block-short : length bytes < 46 → Blocked 255 bytes block answer
-  unfolding blockNumber blockRecord blockBlock blockAnswer noRoom
+  unfolding blockNumber blockRecord blockWritten blockAnswer noRoom
   block-short h = rw (lt-ltb (length bytes) 46 h) (refl, refl, refl, refl)
 
   module _ (h : 46 ≤ length bytes) where
     pub block-short-answer : length answer < 8 → Blocked 255 bytes block answer
-    unfolding blockNumber blockRecord blockBlock blockAnswer noRoom
+    unfolding blockNumber blockRecord blockWritten blockAnswer noRoom
     block-short-answer a = rw (le-ltb (length bytes) 46 h, lt-ltb (length answer) 8 a) (refl, refl, refl, refl)
 
     module _ (a : 8 ≤ length answer) {newBlock : List ℕ} {m : Making} (b : BlockCalled (senderIn bytes) store block n u y newBlock m) where
       pub block-refused : (k : ℕ) → m .made ≡ Refused k → Blocked k bytes newBlock answer
-      unfolding blockNumber blockRecord blockBlock blockAnswer bufferAfterBlock answerToBlock
+      unfolding blockNumber blockRecord blockWritten blockAnswer bufferAfterBlock answerToBlock
       block-refused k e =
           let (number, refused) = refused-by _ _ _ k (sym e ∙ b .made) in
           rw (le-ltb (length bytes) 46 h, le-ltb (length answer) 8 a, refused) (sym number, refl, b .buffer ∙ rw refused, refl)
 
       pub block-accepted : (placed used : ℕ) → m .made ≡ Block placed used → {new newAnswer : List ℕ} → new ≡ sets bytes 0 (senderBytes (m .sender))
           → newAnswer ≡ sets answer 0 (blockAnswerBytes placed used) → Blocked 0 new newBlock newAnswer
-      unfolding blockNumber blockRecord blockBlock blockAnswer answerToBlock
+      unfolding blockNumber blockRecord blockWritten blockAnswer answerToBlock
       block-accepted placed used e f g =
           let (none, frames, count) = made-by _ _ _ placed used (sym e ∙ b .made) in
           rw (le-ltb (length bytes) 46 h, le-ltb (length answer) 8 a, none) (

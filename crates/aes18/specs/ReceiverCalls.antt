@@ -15,6 +15,7 @@ use Rattle.aes18.specs.Room.{noRoom}
 
 -- ---- listing
 
+-- the number answered
 unfoldable pub listNumber : List ℕ → List ℕ → ℕ
 listNumber bytes list = cond (ltb (length bytes) receiverLength) noRoom (listRefusal list)
 
@@ -24,12 +25,13 @@ listRecord bytes list = cond (ltb (length bytes) receiverLength) bytes (sets byt
 
 -- ---- reading
 
--- bytes that no record is laid out as are "a record out of range"
+-- the number answered; bytes that no record is laid out as are "a record out of range"
 unfoldable pub readNumber : List ℕ → List ℕ → List ℕ → ℕ → ℕ → List ℕ → ℕ
 readNumber bytes store bits from to answer =
     cond (ltb (length bytes) receiverLength || ltb (length answer) readAnswerLength) noRoom
     (cond (not (isReceiver bytes)) 14 (readRefusal (receiverIn bytes) store bits from to))
 
+-- then the record, the store, the answer
 unfoldable pub readRecord : List ℕ → List ℕ → List ℕ → ℕ → ℕ → List ℕ → List ℕ
 readRecord bytes store bits from to answer =
     cond (eqb (readNumber bytes store bits from to answer) 0)

@@ -17,6 +17,7 @@ use Rattle.aes18.specs.Room.{noRoom}
 
 -- ---- listing
 
+-- the number answered
 unfoldable pub listNumber : List ℕ → List ℕ → ℕ
 listNumber bytes list = cond (ltb (length bytes) senderLength) noRoom (listRefusal list)
 
@@ -26,10 +27,12 @@ listRecord bytes list = cond (ltb (length bytes) senderLength) bytes (sets bytes
 
 -- ---- offering
 
+-- the number answered
 unfoldable pub offerNumber : List ℕ → List ℕ → ℕ → ℕ → ℕ → List ℕ → ℕ
 offerNumber bytes store c priority repetition message =
     cond (ltb (length bytes) senderLength) noRoom (offerRefusal (senderIn bytes) store c priority repetition message)
 
+-- then the record, the store
 unfoldable pub offerRecord : List ℕ → List ℕ → ℕ → ℕ → ℕ → List ℕ → List ℕ
 offerRecord bytes store c priority repetition message =
     cond (eqb (offerNumber bytes store c priority repetition message) 0)
@@ -46,17 +49,19 @@ offerStore bytes store c priority repetition message =
 abbrev pub systemAsked : ℕ → ℕ → ℕ → List ℕ → System
 systemAsked number enable code information = system (not (eqb number 0)) enable code information
 
+-- the number answered
 unfoldable pub blockNumber : List ℕ → List ℕ → ℕ → ℕ → System → List ℕ → List ℕ → ℕ
 blockNumber bytes store n u y block answer =
     cond (ltb (length bytes) senderLength || ltb (length answer) blockAnswerLength) noRoom (blockRefusal (senderIn bytes) store block n u y)
 
+-- then the record, the block, the answer
 unfoldable pub blockRecord : List ℕ → List ℕ → ℕ → ℕ → System → List ℕ → List ℕ → List ℕ
 blockRecord bytes store n u y block answer =
     cond (eqb (blockNumber bytes store n u y block answer) 0)
     (sets bytes 0 (senderBytes (senderAfterBlock (senderIn bytes) store block n u y))) bytes
 
-unfoldable pub blockBlock : List ℕ → List ℕ → ℕ → ℕ → System → List ℕ → List ℕ → List ℕ
-blockBlock bytes store n u y block answer =
+unfoldable pub blockWritten : List ℕ → List ℕ → ℕ → ℕ → System → List ℕ → List ℕ → List ℕ
+blockWritten bytes store n u y block answer =
     cond (eqb (blockNumber bytes store n u y block answer) 0) (bufferAfterBlock (senderIn bytes) store block n u y) block
 
 unfoldable pub blockAnswer : List ℕ → List ℕ → ℕ → ℕ → System → List ℕ → List ℕ → List ℕ

@@ -80,7 +80,7 @@ pub extern "C" fn aes18_sender_block(
 ) -> u32
     ensures { λ r. ⌜ (r ≡ sends.blockNumber (now («record» .entry)) (now (store .entry)) n u (systemAsked system enable code (now (info .entry))) (now (block .entry)) (now (answer .entry)))
         × (now («record» .exit) ≡ sends.blockRecord (now («record» .entry)) (now (store .entry)) n u (systemAsked system enable code (now (info .entry))) (now (block .entry)) (now (answer .entry)))
-        × (now (block .exit) ≡ sends.blockBlock (now («record» .entry)) (now (store .entry)) n u (systemAsked system enable code (now (info .entry))) (now (block .entry)) (now (answer .entry)))
+        × (now (block .exit) ≡ sends.blockWritten (now («record» .entry)) (now (store .entry)) n u (systemAsked system enable code (now (info .entry))) (now (block .entry)) (now (answer .entry)))
         × (now (answer .exit) ≡ sends.blockAnswer (now («record» .entry)) (now (store .entry)) n u (systemAsked system enable code (now (info .entry))) (now (block .entry)) (now (answer .entry))) ⌝ }
 {
     if record.len() < sending::LENGTH {
