@@ -31,7 +31,7 @@ readNumber bytes store bits from to answer =
     cond (ltb (length bytes) receiverLength || ltb (length answer) readAnswerLength) noRoom
     (cond (not (isReceiver bytes)) 14 (readRefusal (receiverIn bytes) store bits from to))
 
--- then the record, the store, the answer
+-- what record, store and answer are then
 unfoldable pub readRecord : List ℕ → List ℕ → List ℕ → ℕ → ℕ → List ℕ → List ℕ
 readRecord bytes store bits from to answer =
     cond (eqb (readNumber bytes store bits from to answer) 0)

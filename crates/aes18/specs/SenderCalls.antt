@@ -32,7 +32,7 @@ unfoldable pub offerNumber : List ℕ → List ℕ → ℕ → ℕ → ℕ → L
 offerNumber bytes store c priority repetition message =
     cond (ltb (length bytes) senderLength) noRoom (offerRefusal (senderIn bytes) store c priority repetition message)
 
--- then the record, the store
+-- what record and store are then
 unfoldable pub offerRecord : List ℕ → List ℕ → ℕ → ℕ → ℕ → List ℕ → List ℕ
 offerRecord bytes store c priority repetition message =
     cond (eqb (offerNumber bytes store c priority repetition message) 0)
@@ -54,7 +54,7 @@ unfoldable pub blockNumber : List ℕ → List ℕ → ℕ → ℕ → System �
 blockNumber bytes store n u y block answer =
     cond (ltb (length bytes) senderLength || ltb (length answer) blockAnswerLength) noRoom (blockRefusal (senderIn bytes) store block n u y)
 
--- then the record, the block, the answer
+-- what record, block and answer are then
 unfoldable pub blockRecord : List ℕ → List ℕ → ℕ → ℕ → System → List ℕ → List ℕ → List ℕ
 blockRecord bytes store n u y block answer =
     cond (eqb (blockNumber bytes store n u y block answer) 0)
