@@ -18,14 +18,14 @@ use Rattle.packet.specs.Circuits.{listing}
 use Rattle.offering.specs.declared.Slot.{Slot}
 use Rattle.offering.specs.declared.Sender.{Sender}
 use Rattle.offering.specs.Record.{fresh}
-use Rattle.offering.specs.Offering.{offerRefusal, senderAfterOffer}
-use Rattle.sender.specs.Blocks.{System, blockRefusal, senderAfterBlock}
+use Rattle.offering.specs.Offering.{offerRefusal, offeredStore, senderAfterOffer, storeAfterOffer}
+use Rattle.sender.specs.Blocks.{System, blockBits, blockBuffer, blockRefusal, senderAfterBlock, bufferAfterBlock}
 use Rattle.layout.specs.Layout.{lowBytes, circuitBytes, circuitsBytes}
 use Rattle.layout.specs.SenderBytes.{slotBytes, slotsBytes, senderBytes, senderIn}
 use Rattle.layout.specs.Fits.{Four, CircuitFits, CircuitsFit, SenderSlotFits, SenderFits}
 use Rattle.layout.proofs.Parts.{four-elements}
 use Rattle.layout.proofs.SenderRoundTrip.{sender-unpacks, sender-fits}
-use Rattle.aes18.specs.SenderCalls.{listRecord, offerNumber, offerRecord, blockNumber, blockRecord}
+use Rattle.aes18.specs.SenderCalls.{listRecord, offerNumber, offerRecord, offerStore, blockNumber, blockRecord, blockWritten}
 use Rattle.aes18.proofs.SenderFitsKept.{fits-fresh, fits-offered, fits-made}
 
 -- ---- a record that fits is laid out in bytes
@@ -125,3 +125,26 @@ module _ (bytes : List ℕ) (are : Bytes bytes) (long : 46 ≤ length bytes) whe
       rw (le-ltb (length bytes) 46 long, le-ltb (length answer) 8 room)
       (written-or-left (eqb (blockRefusal (senderIn bytes) store block n u y) 0) (senderAfterBlock (senderIn bytes) store block n u y)
       (fits-made (senderIn bytes) store block n u y (sender-fits bytes are)) (λ e. rw e))
+
+-- ---- the number answered, the store and the block, where there is room
+
+-- what a call leaves is asked for twice, and once is enough
+twice : {A : Type 0} (t : Bool) (x y : A) → cond t (cond t x y) y ≡ cond t x y
+twice true x y = refl
+twice false x y = refl
+
+module _ (bytes : List ℕ) (long : 46 ≤ length bytes) (store : List ℕ) where
+  pub offer-answers : (c p r : ℕ) (message : List ℕ) → (offerNumber bytes store c p r message ≡ offerRefusal (senderIn bytes) store c p r message)
+      × (offerStore bytes store c p r message ≡ storeAfterOffer (senderIn bytes) store c p r message)
+  unfolding offerNumber offerStore storeAfterOffer
+  offer-answers c p r message =
+      rw (le-ltb (length bytes) 46 long)
+      (refl, twice (eqb (offerRefusal (senderIn bytes) store c p r message) 0) (offeredStore store c message) store)
+
+  pub block-answers : (n u : ℕ) (y : System) (block answer : List ℕ) → 8 ≤ length answer
+      → (blockNumber bytes store n u y block answer ≡ blockRefusal (senderIn bytes) store block n u y)
+      × (blockWritten bytes store n u y block answer ≡ bufferAfterBlock (senderIn bytes) store block n u y)
+  unfolding blockNumber blockWritten bufferAfterBlock
+  block-answers n u y block answer room =
+      rw (le-ltb (length bytes) 46 long, le-ltb (length answer) 8 room)
+      (refl, twice (eqb (blockRefusal (senderIn bytes) store block n u y) 0) (blockBuffer block (blockBits (senderIn bytes) store n u y)) block)
