@@ -1,6 +1,9 @@
--- The laws of `aes18`: what its functions' proofs cite; then that the bytes lent carry the sender's record from call to call.
+-- The laws of `aes18`: what its functions' proofs cite; then that the bytes lent carry each end's record from call to call.
 pub mod Clipping
 pub mod SenderOutcomes
 pub mod ReceiverOutcomes
+pub mod Fitting
 pub mod SenderFitsKept
 pub mod SenderCarried
+pub mod ReceiverFitsKept
+pub mod ReceiverCarried
