@@ -87,5 +87,7 @@ pub circuits-Bytes : (cs : Circuits) → CircuitsFit cs → Bytes (circuitsBytes
 unfolding circuitsBytes
 circuits-Bytes cs fits =
     four-elements (λ l. Bytes (circuitsBytes (record { count = cs .count; list = l })))
-    (λ a b c d fa fb fc fd. Bytes-append _ _ (Bytes-append _ _ (Bytes-append _ _ (counted-Bytes (cs .count) a (fits .count) fa) (circuit-Bytes b fb)) (circuit-Bytes c fc)) (circuit-Bytes d fd))
+    (λ a b c d fa fb fc fd.
+    Bytes-append _ _ (Bytes-append _ _ (Bytes-append _ _ (counted-Bytes (cs .count) a (fits .count) fa) (circuit-Bytes b fb)) (circuit-Bytes c fc))
+    (circuit-Bytes d fd))
     (cs .list) (fits .list)
