@@ -18,15 +18,16 @@ use Rattle.framing.specs.declared.Framing.{Framing}
 use Rattle.receiver.specs.declared.Slot.{Slot}
 use Rattle.receiver.specs.declared.Receiver.{Receiver}
 use Rattle.receiver.specs.Record.{fresh}
-use Rattle.receiver.specs.Reading.{readRefusal, receiverAfterRead, storeAfterRead}
-use Rattle.receiver.specs.Reads.{ReadCall, ReceiverEnd, freshReceiverEnd, afterRead, afterReads}
+use Rattle.receiver.specs.Reading.{readBy, readScan, readRefusal, receiverAfterRead, storeAfterRead, bitsRead}
+use Rattle.receiver.specs.Reads.{ReadCall, ReceiverEnd, freshReceiverEnd, acceptedRead, afterRead, afterReads}
 use Rattle.receiver.proofs.SlotsInRange.{cond-either}
 use Rattle.layout.specs.Layout.{lowBytes, circuitBytes, circuitsBytes}
 use Rattle.layout.specs.ReceiverBytes.{slotBytes, slotsBytes, framingBytes, receiverBytes, receiverIn, isReceiver}
+use Rattle.layout.specs.Answers.{readAnswerBytes}
 use Rattle.layout.specs.Fits.{Each, Four, ReceiverSlotFits, FramingFits, ReceiverFits}
 use Rattle.layout.proofs.Parts.{four-elements}
 use Rattle.layout.proofs.ReceiverRoundTrip.{receiver-unpacks, receiver-fits, receiver-is}
-use Rattle.aes18.specs.ReceiverCalls.{listRecord, readNumber, readRecord, readStore}
+use Rattle.aes18.specs.ReceiverCalls.{listRecord, readNumber, readRecord, readStore, readAnswer}
 use Rattle.aes18.proofs.Fitting.{circuits-Bytes}
 use Rattle.aes18.proofs.ReceiverFitsKept.{fresh-fits, read-fits}
 
@@ -137,6 +138,12 @@ callsOf cs = map (λ (c : LentRead). c .call) cs
 abbrev pub Answerable : List LentRead → Type 0
 Answerable cs = Each (λ (c : LentRead). 16 ≤ length (c .answer)) cs
 
+-- what an accepted call tells, in bytes
+abbrev pub answerOfRead : ReceiverEnd → ReadCall → List ℕ
+answerOfRead s c =
+    readAnswerBytes (readBy (readScan (s .receiver) (c .bytes) (c .from) (c .to)) (s .receiver) (s .store) .notice)
+    (bitsRead (s .receiver) (s .store) (c .bytes) (c .from) (c .to))
+
 -- they are a receiver's state, in as many bytes as were lent first
 pub record CarriedEnd (bytes : List ℕ) (e : LentEnd) (s : ReceiverEnd) : Type 0 where
   pub receiver : Carried bytes (e .bytes) (s .receiver)
@@ -157,7 +164,13 @@ module _ (bytes : List ℕ) (room : 61 ≤ length bytes) where
         read-number (e .bytes) (h .receiver .each) still (h .receiver .is) (e .store) (c .call .bytes) (c .call .from) (c .call .to) (c .answer) room-answer
         ∙ ap (λ (s : ReceiverEnd). readRefusal (s .receiver) (s .store) (c .call .bytes) (c .call .from) (c .call .to)) same
 
-    -- and leaves the state that document 01's leaves
+    -- an accepted one tells the notice and the bits read of document 01's
+    pub call-answer : acceptedRead s (c .call) ≡ true
+        → readAnswer (e .bytes) (e .store) (c .call .bytes) (c .call .from) (c .call .to) (c .answer) ≡ sets (c .answer) 0 (answerOfRead s (c .call))
+    unfolding readAnswer acceptedRead
+    call-answer accepted = rw (call-number, accepted) (ap (λ (s : ReceiverEnd). sets (c .answer) 0 (answerOfRead s (c .call))) same)
+
+    -- every call leaves the state that document 01's leaves
     pub call-carried : CarriedEnd bytes (afterLent e c) (afterRead s (c .call))
     unfolding afterLent afterRead
     call-carried =
@@ -175,7 +188,7 @@ module _ (bytes : List ℕ) (room : 61 ≤ length bytes) where
   reads-carried [] a e s h = h
   reads-carried (c ∷ cs) a e s h = reads-carried cs (a .1) (afterLent e c) (afterRead s (c .call)) (call-carried e s h c (a .0))
 
-  -- so do a listing and reading calls
+  -- so do a listing and any reading calls after it
   pub calls-carried : Bytes bytes → (list : List ℕ) → Bytes list → (store : List ℕ) (cs : List LentRead) → Answerable cs
       → CarriedEnd bytes (afterLents (record { bytes = listRecord bytes list; store = store }) cs) (afterReads (freshReceiverEnd list store) (callsOf cs))
   calls-carried are list listed store cs a =
