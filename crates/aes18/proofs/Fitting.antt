@@ -1,9 +1,9 @@
--- Laws of what fits, for both ends' records: lists whose elements fit, the circuits that listing makes of bytes, and the bytes of circuits.
-use Prim.Native.Nat.{ℕ, zero, suc, _≤_, _<_}
+-- Laws of what fits, for both ends' records: lists whose elements fit, the circuits that listing makes of bytes, and the bytes of numbers and circuits.
+use Prim.Native.Nat.{ℕ, zero, suc, _/_, _≤_, _<_}
 use mathlib.Core.List.{List, [], _∷_, _++_}
 use native.Mathlib.Omega.{arith}
 use borrow.Author.Tests.{eqb-true}
-use lib.ListN.{length, take, set, replicate, length-append}
+use lib.ListN.{length, take, set, replicate, length-append, length-set}
 use lib.Seq.{length-take-le}
 use lib.Dec.{eqb}
 use Rattle.bits.specs.Bits.{Bytes}
@@ -13,8 +13,8 @@ use Rattle.packet.specs.declared.Circuits.{Circuits}
 use Rattle.packet.specs.Circuits.{circuitsOf, listRefusal, noCircuit, recordOf, listing}
 use Rattle.packet.proofs.CircuitLists.{listRefusal-length}
 use Rattle.receiver.proofs.SlotsInRange.{cond-either}
-use Rattle.layout.specs.Layout.{circuitBytes, circuitsBytes}
-use Rattle.layout.specs.Fits.{Each, CircuitFits, CircuitsFit}
+use Rattle.layout.specs.Layout.{lowBytes, circuitBytes, circuitsBytes}
+use Rattle.layout.specs.Fits.{Each, Four, CircuitFits, CircuitsFit}
 use Rattle.layout.proofs.Parts.{four-elements}
 
 -- ---- lists, each element of which fits
@@ -36,11 +36,15 @@ module _ {A : Type 0} (Fits : A → Type 0) where
   Each-replicate zero x h = tt
   Each-replicate (suc n) x h = (h, Each-replicate n x h)
 
-  pub Each-set : (l : List A) (i : ℕ) (x : A) → Fits x → Each Fits l → Each Fits (set l i x)
+  Each-set : (l : List A) (i : ℕ) (x : A) → Fits x → Each Fits l → Each Fits (set l i x)
   unfolding Each
   Each-set [] i x h k = tt
   Each-set (y ∷ l) zero x h k = (h, k .1)
   Each-set (y ∷ l) (suc i) x h k = (k .0, Each-set l i x h (k .1))
+
+  -- an array of four stays one
+  pub Four-set : (l : List A) (i : ℕ) (x : A) → Fits x → Four Fits l → Four Fits (set l i x)
+  Four-set l i x h k = record { four = rw length-set (k .four); each = Each-set l i x h (k .each) }
 
 -- ---- the circuits that listing makes of bytes
 
@@ -73,7 +77,12 @@ listing-fits list are =
     (λ e. recordOf-fits (circuitsOf list) (listRefusal-length list (eqb-true (listRefusal list) 0 e) .1) (circuitsOf-fit list are))
     (λ _. recordOf-fits [] (omega arith) tt)
 
--- ---- the bytes of circuits
+-- ---- the bytes of numbers and of circuits
+
+pub lowBytes-Bytes : (k n : ℕ) → Bytes (lowBytes k n)
+unfolding Bytes lowBytes
+lowBytes-Bytes zero n = tt
+lowBytes-Bytes (suc k) n = (omega arith, lowBytes-Bytes k (n / 256))
 
 circuit-Bytes : (c : Circuit) → CircuitFits c → Bytes (circuitBytes c)
 unfolding circuitBytes Bytes

@@ -3,10 +3,10 @@ use Prim.Native.Nat.{ℕ, _≤_, _<_}
 use mathlib.Core.Bool.{Bool, true, false, cond, _&&_, _||_}
 use mathlib.Core.List.{List}
 use mathlib.Core.Option.{Option, none, some}
-use mathlib.Core.Path.{_≡_, refl, _∙_}
+use mathlib.Core.Path.{_≡_, refl}
 use native.Mathlib.Omega.{arith}
 use borrow.Author.Tests.{ltb-true, leb-true, eqb-true}
-use lib.ListN.{take, length-set}
+use lib.ListN.{take}
 use lib.Dec.{ltb, eqb}
 use Rattle.bits.specs.Bits.{bitsOf, Bytes}
 use Rattle.bits.proofs.Bits.{Bytes-take}
@@ -30,7 +30,7 @@ use Rattle.receiver.proofs.SlotsInRange.{cond-either, getD-slotsInRange, slotAf
 use Rattle.receiver.proofs.PacketParts.{number-lt}
 use Rattle.receiver.proofs.InRange.{inRange-parts, arrays, scanned-in-range}
 use Rattle.layout.specs.Fits.{ReceiverSlotFits, FramingFits, ReceiverFits}
-use Rattle.aes18.proofs.Fitting.{Each-replicate, Each-set, listing-fits}
+use Rattle.aes18.proofs.Fitting.{Each-replicate, Four-set, listing-fits}
 
 -- ---- a fresh record
 
@@ -90,11 +90,7 @@ unfolding withSlot
 withSlot-fits r c u h k =
     record {
       circuits = k .circuits;
-      slots =
-          record {
-            four = length-set (r .slots) c u ∙ k .slots .four;
-            each = Each-set ReceiverSlotFits (r .slots) c u h (k .slots .each);
-          };
+      slots = Four-set ReceiverSlotFits (r .slots) c u h (k .slots);
       framing = k .framing;
     }
 

@@ -1,17 +1,15 @@
 -- The fields of a sender's record fit their types: those of a listing do, and an offer and a block call keep them so.
 use mathlib.Core.Path.{_≡_, refl}
-use Prim.Native.Nat.{ℕ, zero, suc, _+_, _≤_}
+use Prim.Native.Nat.{ℕ, zero, suc, _+_}
 use native.Mathlib.Omega.{arith}
 use mathlib.Core.Bool.{Bool, true, false, cond}
-use mathlib.Core.List.{List, [], _∷_, _++_}
+use mathlib.Core.List.{List}
 use mathlib.Core.Option.{some}
-use lib.ListN.{length, take, set, replicate, length-take, length-append, length-set}
+use lib.ListN.{length}
 use lib.Dec.{eqb}
 use borrow.Author.Tests.{eqb-true}
 use Rattle.bits.specs.Bits.{Bytes}
-use Rattle.packet.specs.declared.Circuit.{Circuit}
-use Rattle.packet.specs.Circuits.{circuitsOf, listRefusal, noCircuit, recordOf, listing}
-use Rattle.packet.proofs.CircuitLists.{listRefusal-length}
+use Rattle.packet.specs.Circuits.{listing}
 use Rattle.packet.proofs.Segments.{packets-most}
 use Rattle.offering.specs.declared.Slot.{Slot}
 use Rattle.offering.specs.declared.Sender.{Sender}
@@ -25,69 +23,10 @@ use Rattle.writing.specs.NextFrame.{nextFrame}
 use Rattle.sender.specs.Blocks.{Filled, System, full, andThen, fill, waiting, filled, blockFilled, blockRefusal, senderAfterBlock}
 use Rattle.sender.proofs.Filling.{placing-cases}
 use Rattle.sender.proofs.BlockRefusals.{accepted}
-use Rattle.layout.specs.Fits.{Each, Four, CircuitFits, CircuitsFit, SenderSlotFits, SenderFits}
-
--- ---- each element of a list
-
-module _ {A : Type 0} (Fits : A → Type 0) where
-  each-append : (a b : List A) → Each Fits a → Each Fits b → Each Fits (a ++ b)
-  unfolding Each
-  each-append [] b f g = g
-  each-append (x ∷ a) b f g = (f .0, each-append a b (f .1) g)
-
-  each-take : (n : ℕ) (l : List A) → Each Fits l → Each Fits (take n l)
-  unfolding Each
-  each-take zero l f = tt
-  each-take (suc n) [] f = tt
-  each-take (suc n) (x ∷ l) f = (f .0, each-take n l (f .1))
-
-  each-set : (l : List A) (i : ℕ) (a : A) → Each Fits l → Fits a → Each Fits (set l i a)
-  unfolding Each
-  each-set [] i a f g = tt
-  each-set (x ∷ l) zero a f g = (g, f .1)
-  each-set (x ∷ l) (suc i) a f g = (f .0, each-set l i a (f .1) g)
-
-  each-replicate : (n : ℕ) (a : A) → Fits a → Each Fits (replicate n a)
-  unfolding Each
-  each-replicate zero a f = tt
-  each-replicate (suc n) a f = (f, each-replicate n a f)
-
-  -- an array of four stays one
-  four-set : (l : List A) (i : ℕ) (a : A) → Four Fits l → Fits a → Four Fits (set l i a)
-  four-set l i a f g = record { four = rw length-set (f .four); each = each-set l i a (f .each) g }
+use Rattle.layout.specs.Fits.{SenderSlotFits, SenderFits}
+use Rattle.aes18.proofs.Fitting.{Each-replicate, Four-set, listing-fits}
 
 -- ---- listing
-
-circuitsOf-fit : (bs : List ℕ) → Bytes bs → Each CircuitFits (circuitsOf bs)
-unfolding circuitsOf Bytes Each
-circuitsOf-fit [] are = tt
-circuitsOf-fit (a ∷ []) are = tt
-circuitsOf-fit (a ∷ e ∷ []) are = tt
-circuitsOf-fit (a ∷ e ∷ x ∷ bs) are =
-    (record { address = are .0; extended = are .1 .0; extension = are .1 .1 .0 }, circuitsOf-fit bs (are .1 .1 .1))
-
-recordOf-fits : (cs : List Circuit) → length cs ≤ 4 → Each CircuitFits cs → CircuitsFit (recordOf cs)
-unfolding recordOf noCircuit
-recordOf-fits cs few f =
-    record {
-      count = omega arith;
-      list =
-          record {
-            four = rw (length-take, length-append) (omega arith);
-            each =
-                each-take CircuitFits 4 (cs ++ replicate 4 noCircuit)
-                (each-append CircuitFits cs (replicate 4 noCircuit) f
-                (each-replicate CircuitFits 4 noCircuit (record { address = omega arith; extended = omega arith; extension = omega arith })));
-          };
-    }
-
-listing-fits : (list : List ℕ) → Bytes list → CircuitsFit (listing list)
-unfolding listing Each
-listing-fits list are = go (eqb (listRefusal list) 0) refl
-  where
-    go : (t : Bool) → eqb (listRefusal list) 0 ≡ t → CircuitsFit (cond t (recordOf (circuitsOf list)) (recordOf []))
-    go true e = recordOf-fits (circuitsOf list) (listRefusal-length list (eqb-true _ 0 e) .1) (circuitsOf-fit list are)
-    go false e = recordOf-fits [] (omega arith) tt
 
 pub fits-fresh : (list : List ℕ) → Bytes list → SenderFits (fresh (listing list))
 unfolding fresh freshSlot
@@ -98,7 +37,7 @@ fits-fresh list are =
           record {
             four = refl;
             each =
-                each-replicate SenderSlotFits 4 freshSlot
+                Each-replicate SenderSlotFits 4 freshSlot
                 (record {
                   index = omega arith;
                   priority = omega arith;
@@ -137,7 +76,7 @@ fits-offered s store c p r message fits = go (eqb (offerRefusal s store c p r me
         record {
           circuits = fits .circuits;
           slots =
-              four-set SenderSlotFits (s .slots) c _ (fits .slots)
+              Four-set SenderSlotFits (s .slots) c _
               (slot-fits _
               (record {
                 index = t .index;
@@ -146,7 +85,8 @@ fits-offered s store c p r message fits = go (eqb (offerRefusal s store c p r me
                 short = f .message;
                 place = omega arith;
                 copy = omega arith;
-              }));
+              }))
+              (fits .slots);
           last = fits .last;
         }
     go false e = fits
@@ -160,7 +100,7 @@ fits-served s enable c range p fits =
     let t = slotInRange-facts _ (slotInRange-advanced (slotAt s c) (slotInRange-slotAt s c range (f .count)) (f .pending)) in
     record {
       circuits = fits .circuits;
-      slots = four-set SenderSlotFits (s .slots) c (advanced (slotAt s c)) (fits .slots) (slot-fits (advanced (slotAt s c)) t);
+      slots = Four-set SenderSlotFits (s .slots) c (advanced (slotAt s c)) (slot-fits (advanced (slotAt s c)) t) (fits .slots);
       last = omega (arith, pick-lt s enable c range p);
     }
 
