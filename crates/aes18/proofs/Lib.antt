@@ -5,5 +5,7 @@ pub mod ReceiverOutcomes
 pub mod Fitting
 pub mod SenderFitsKept
 pub mod SenderCarried
+pub mod SenderLists
 pub mod ReceiverFitsKept
 pub mod ReceiverCarried
+pub mod ReceiverLists

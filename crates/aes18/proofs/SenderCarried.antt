@@ -1,5 +1,5 @@
--- The bytes lent to the sender's functions carry its record from call to call: after each call they are the record that document 01's call
--- returns, so that every list of exported calls is a list of its calls.
+-- The bytes lent carry a sender's record from call to call: where there is room, what the exported functions leave in them is, taken as a record, what
+-- document 01's call leaves of the record that they held; and they are as many bytes.
 use mathlib.Core.Path.{_≡_, refl}
 use Prim.Native.Nat.{ℕ, _≤_}
 use mathlib.Core.Bool.{Bool, true, false, cond}

@@ -1,4 +1,5 @@
--- The definitions of `aes18`: what each exported function answers, and what it leaves in the bytes lent to it.
+-- The definitions of `aes18`: what each exported function answers, and what it leaves in the bytes lent to it; lists of exported calls.
 pub mod Room
 pub mod SenderCalls
 pub mod ReceiverCalls
+pub mod Lent
