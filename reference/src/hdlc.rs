@@ -75,7 +75,7 @@ pub enum Judged {
 /// Judges a body that is not void.
 pub fn judge(body: &[bool]) -> Judged {
     let bits = unstuff(body);
-    let whole_bytes = bits.len().is_multiple_of(8) && (4..=21).contains(&(bits.len() / 8));
+    let whole_bytes = bits.len() % 8 == 0 && (4..=21).contains(&(bits.len() / 8));
     if whole_bytes && !body.ends_with(&[true; 5]) {
         let mut packet = bytes_of(&bits);
         let sent = packet.split_off(packet.len() - 2);
