@@ -1,9 +1,10 @@
 //! The five calls on slices. The only place with unsafe code: a slice is valid for its length, and one that is borrowed to be written overlaps no
 //! other, which is what [`ffi`] asks for.
 
+use crate::ffi;
+use crate::lengths::{RECEIVER_RECORD, SENDER_RECORD};
 use crate::refusal::Refusal;
-use crate::sender::SystemPacket;
-use crate::{ffi, RECEIVER_RECORD, SENDER_RECORD};
+use crate::system::SystemPacket;
 
 /// Lists a sender's circuits.
 pub(crate) fn sender_list(record: &mut [u8; SENDER_RECORD], list: &[u8]) -> Result<(), Refusal> {

@@ -1,6 +1,6 @@
 //! What a reading call tells.
 
-use crate::{REGION, SYSTEM_PLACE};
+use crate::lengths::{REGION, SYSTEM_PLACE};
 
 /// What a reading call stopped at.
 #[derive(Clone, Copy, Debug, PartialEq, Eq)]

@@ -1,9 +1,10 @@
 //! The receiving end.
 
+use crate::calls;
 use crate::circuit::{Circuit, List};
+use crate::lengths::RECEIVER_RECORD;
 use crate::notice::Notice;
 use crate::refusal::Refusal;
-use crate::{calls, RECEIVER_RECORD};
 
 /// A receiver: the circuits it lists, what came there, and where it stands between two flags.
 ///

@@ -82,14 +82,19 @@ fn run(mut arguments: Vec<OsString>) -> Result<(), Error> {
     let name = arguments.remove(0);
     let name = name.to_string_lossy();
     match name.as_ref() {
-        "-h" | "--help" => return output::print(HELP),
-        "-V" | "--version" => return output::print(VERSION),
+        "-h" | "--help" => return print(HELP),
+        "-V" | "--version" => return print(VERSION),
         _ => {}
     }
     match SUBCOMMANDS.iter().find(|known| known.name == name) {
-        Some(subcommand) if args::ask_for_help(&arguments) => output::print(subcommand.help),
+        Some(subcommand) if args::ask_for_help(&arguments) => print(subcommand.help),
         Some(subcommand) => (subcommand.run)(Args::new(arguments))
             .map_err(|error| error.see_help_of(&format!("aes18 {name}"))),
         None => Err(expected(&format!(", not '{name}'"))),
     }
+}
+
+/// Prints a help or the version.
+fn print(text: &str) -> Result<(), Error> {
+    output::print(text).map_err(|error| Error::stdout(&error))
 }

@@ -2,15 +2,11 @@
 
 use std::io::{self, Write};
 
-use crate::error::Error;
-
 /// Prints a text such as a help.
-pub fn print(text: &str) -> Result<(), Error> {
+pub fn print(text: &str) -> io::Result<()> {
     let mut stdout = io::stdout().lock();
-    stdout
-        .write_all(text.as_bytes())
-        .and_then(|()| stdout.flush())
-        .map_err(|error| Error::stdout(&error))
+    stdout.write_all(text.as_bytes())?;
+    stdout.flush()
 }
 
 /// Says a line on the standard error; where that cannot be written there is nobody to tell.

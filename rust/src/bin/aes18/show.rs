@@ -4,6 +4,7 @@ mod extents;
 mod ink;
 mod layout;
 mod options;
+mod paint;
 mod report;
 mod svg;
 mod tally;

@@ -99,7 +99,7 @@ impl Ink {
     }
 
     /// Its class in the SVG's style sheet.
-    pub fn class(self) -> &'static str {
+    fn class(self) -> &'static str {
         match self {
             Ink::Blank => "",
             Ink::Idle => "idle",
@@ -114,6 +114,14 @@ impl Ink {
             Ink::Void => "void",
             Ink::Loss => "loss",
             Ink::Spoilt => "spoilt",
+        }
+    }
+
+    /// The classes of a body's bar in the SVG.
+    pub fn classes(self) -> String {
+        match self {
+            Ink::Circuit { used: false, .. } => format!("{} unused", self.class()),
+            _ => self.class().to_string(),
         }
     }
 }

@@ -8,7 +8,7 @@ use std::ops::RangeInclusive;
 use aes18::Circuit;
 
 use super::layout::Layout;
-use super::terminal::Paint;
+use super::paint::Paint;
 use super::words::Words;
 use crate::args::{self, Arg, Args};
 use crate::circuits;

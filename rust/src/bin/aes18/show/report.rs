@@ -4,8 +4,8 @@ use std::io::{self, Write};
 
 use super::ink::Ink;
 use super::options::Options;
+use super::paint::Paint;
 use super::tally::{Packets, Tally};
-use super::terminal::Paint;
 use super::words::Words;
 
 /// Writes the legend and the list.

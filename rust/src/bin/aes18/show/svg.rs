@@ -1,6 +1,7 @@
 //! The picture as SVG. Its rows are written as they come; legend and scale, which tell of all of them, are written last.
 
 mod header;
+mod sheet;
 
 use std::io::{self, Write};
 
@@ -11,17 +12,10 @@ use super::ink::Ink;
 use super::layout::Part;
 use super::tally::Tally;
 use super::words::Words;
+use sheet::{EDGE, LEFT, ROW, TOP};
 
-/// The left edge of title and legend.
-const EDGE: f64 = 24.0;
-/// The space to the left of the rows, for their labels.
-const LEFT: f64 = 84.0;
-/// The length of a row.
-const ROW: f64 = 1200.0;
 /// The width of the whole picture.
 const WIDTH: f64 = LEFT + ROW + EDGE;
-/// The space above the rows, for title, legend and scale.
-const TOP: u64 = 192;
 /// From a row to the next.
 const PITCH: u64 = 30;
 /// From a row's top, where its marks are, to its bar.
@@ -133,7 +127,7 @@ impl<'a, W: Write> Svg<'a, W> {
         let ink = Ink::of(stretch.kind);
         let class = match ink {
             Ink::Void | Ink::Spoilt if width < STRIPES => "narrow".to_string(),
-            _ => class(ink),
+            _ => ink.classes(),
         };
         let shown = width.max(2.0);
         let title = self.words.stretch(stretch);
@@ -213,14 +207,6 @@ impl<'a, W: Write> Svg<'a, W> {
             r#"<svg xmlns="http://www.w3.org/2000/svg" width="{WIDTH}" height="{height}" viewBox="0 0 {WIDTH} {height}">"#
         );
         Ok(format!("{start:START$}").into_bytes())
-    }
-}
-
-/// The classes of a body's bar.
-fn class(ink: Ink) -> String {
-    match ink {
-        Ink::Circuit { used: false, .. } => format!("{} unused", ink.class()),
-        _ => ink.class().to_string(),
     }
 }
 

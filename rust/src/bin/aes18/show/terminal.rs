@@ -9,25 +9,13 @@ use super::extents::Kind;
 use super::ink::Ink;
 use super::layout::{Layout, Part};
 use super::options::Options;
+use super::paint::Paint;
 
 /// The columns that a row's label takes at least, and the space behind it.
 const LABEL: usize = 8;
 const SPACE: usize = 1;
 /// The most lines with notes under a row. What they leave out, the list of places tells.
 const NOTES: usize = 3;
-
-/// Whether colours are used.
-#[derive(Clone, Copy, Debug)]
-pub struct Paint(pub bool);
-
-impl Paint {
-    pub fn text(self, ink: Ink, text: &str) -> String {
-        match self.0 && ink != Ink::Blank {
-            true => format!("\x1b[{}m{text}\x1b[0m", ink.colours()),
-            false => text.to_string(),
-        }
-    }
-}
 
 /// A character's place.
 #[derive(Clone, Copy, Debug, PartialEq, Eq)]

@@ -5,7 +5,7 @@ use std::io::{self, Write};
 use super::super::ink::Ink;
 use super::super::tally::{Packets, Tally};
 use super::super::words::Words;
-use super::{class, EDGE, LEFT, ROW, TOP};
+use super::sheet::{EDGE, LEFT, ROW, TOP};
 
 /// Where the legend's columns are.
 const COLUMNS: [f64; 3] = [EDGE, EDGE + 600.0, EDGE + 920.0];
@@ -113,7 +113,7 @@ fn entry(out: &mut impl Write, x: f64, y: usize, ink: Ink, text: &str) -> io::Re
         _ => write!(
             out,
             r#"<rect class="{}" x="{x}" y="{y}" width="14" height="14" rx="1"/>"#,
-            class(ink)
+            ink.classes()
         )?,
     }
     writeln!(

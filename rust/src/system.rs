@@ -1,0 +1,30 @@
+//! System packets.
+
+/// A system packet, which a block can carry in front of its other frames.
+///
+/// ```
+/// use aes18::{Circuit, Notice, Receiver, Sender, SystemPacket, RECEIVER_STORE, SENDER_STORE};
+///
+/// # fn main() -> Result<(), aes18::Refusal> {
+/// let circuits = [Circuit { address: 0x01, extension: None }];
+/// let mut sender = Sender::list(&circuits)?;
+/// let system = SystemPacket { enable: 0b1000, code: 2, information: b"eclipse" };
+/// let mut bits = [0; 40];
+/// sender.block(&[0; SENDER_STORE], 320, 320, Some(system), &mut bits)?;
+///
+/// let mut store = [0; RECEIVER_STORE];
+/// let read = Receiver::list(&circuits)?.read(&mut store, &bits, 0, 320)?;
+/// assert_eq!(read.notice, Notice::System { enable: 0b1000, code: 2, length: 7 });
+/// assert_eq!(read.notice.information(&store), Some(&b"eclipse"[..]));
+/// # Ok(())
+/// # }
+/// ```
+#[derive(Clone, Copy, Debug, Default, PartialEq, Eq)]
+pub struct SystemPacket<'a> {
+    /// Which priorities its block may carry: bit 3 for priority 3 down to bit 0 for priority 0. A block without a system packet enables all.
+    pub enable: u64,
+    /// The block code, 0 to 8.
+    pub code: u64,
+    /// 0 to 15 bytes of information.
+    pub information: &'a [u8],
+}
