@@ -7,7 +7,8 @@ use std::{env, io};
 
 fn main() {
     println!("cargo:rerun-if-env-changed=AES18_ARCHIVE");
-    let folder = match env::var_os("AES18_ARCHIVE") {
+    let named = env::var_os("AES18_ARCHIVE").filter(|folder| !folder.is_empty());
+    let folder = match named {
         Some(folder) => given(PathBuf::from(folder)),
         None => made(&repository()),
     };
