@@ -18,6 +18,23 @@
  *
  * Bits. Bit k of a block, or of bits lent for reading, is the bit of value 1 << (k % 8) in byte k / 8: a byte's lowest bit is sent first.
  * Numbers of several bytes, in answers and records, have their lowest byte first.
+ *
+ * Other makers' gear. Flags, frames, packets and system packets are those of BS.776. In these places document 01 decides otherwise than BS.776, whose
+ * sections stand in brackets:
+ *   Message continuity index [5.2.1.1]. BS.776 counts the messages of an application modulo 8 in bits A7 to A5 of a message's header. Here they are
+ *     sent as 0 and not looked at: a receiver of another make that tells lost messages by them is misled. Losses are told by the packet continuity
+ *     index [5.2.2.1], up to six in a row; BS.776 counts seven [4.5], but the last packet's index again is a copy's.
+ *   Block start [6.1.2]. BS.776 has a block begin with the 0 behind at least seven ones, which end the block before. Here no ones need stand there: a
+ *     block may be used up to its end, and a receiver looks for no block starts. With u at most n - 7 every block ends in seven ones or more; those
+ *     before the first block are the caller's.
+ *   Justification [6.3.1]. From 42 to 54 kHz BS.776 makes it mandatory to leave bits free at a block's end. Here u may be n. The numbers of its
+ *     table 1 are had with a u of 42 bits for each millisecond of the block: 1680 of the 1920 bits of 40 ms at 48 kHz.
+ *   Packets in a block [6.3.2.1]. BS.776 has a table of the most packets of a message that a block takes, by priority and block length; where that is
+ *     less than one, a rule spreads them over several blocks. Here there is neither: a block takes packets by priority as long as they fit, and
+ *     may leave no room to gear behind it. A smaller u, the enable bits and the time of an offer hold packets back.
+ * And this is not covered: messages above 4094 bytes or of unknown length [5.2.1.2], at which a receiver tells WRONG; inserting packets into blocks
+ * that are made already [6.3.1]; and the channel status, which has to tell of this use of the user bits [5.2.4.2]. An address extension of a system
+ * packet [6.2.1.2] is never sent, and skipped by a receiver.
  */
 #ifndef AES18_H
 #define AES18_H

@@ -47,6 +47,13 @@
 //! # }
 //! ```
 //!
+//! # Other makers' gear
+//!
+//! Blocks are bit for bit what BS.776, its HDLC framing and the specification (document 01) give. In these places document 01 decides otherwise than
+//! BS.776: the message continuity index (section 5.2.1.1) is sent as 0 and not looked at; no seven ones need stand before a block (6.1.2); no
+//! justification is mandatory (6.3.1); and a block takes packets by priority as long as they fit, with no table of the most packets of a message and
+//! no rule that spreads them over blocks (6.3.2.1). `include/aes18.h` in the repository says what a caller does about them.
+//!
 //! # Linking
 //!
 //! The build script links the proved static library `libaes18.a`: the one in the folder that the environment variable `AES18_ARCHIVE` names, or
