@@ -8,7 +8,7 @@ use borrow.Author.Tests.{ltb-true, ltb-false, lt-ltb, le-ltb, eqb-true}
 use lib.Dec.{ltb, eqb}
 use Rattle.offering.specs.declared.Sender.{Sender}
 use Rattle.offering.specs.Offering.{offerRefusal, offeredSender, senderAfterOffer, storeAfterOffer}
-use Rattle.sender.specs.Blocks.{System, enableBits, opening, blockFilled, usedBits, blockBits, blockRefusal, senderAfterBlock, bufferAfterBlock}
+use Rattle.sender.specs.Blocks.{System, systemPackets, enableBits, wrongSystem, blockRefusal, senderAfterBlock, bufferAfterBlock}
 use Rattle.sender.specs.declared.Making.{Making}
 use Rattle.sender.specs.BlockCalls.{system, Allowed, madeOf, answerToBlock, BlockCalled}
 use Rattle.offering.proofs.Offers.{offerRefusal-zero}
@@ -50,17 +50,17 @@ clippedSystem w e c i = system w (min e 255) (min c 255) i
 
 module _ (s : Sender) (store buffer : List ℕ) (n u : ℕ) (w : Bool) (e c : ℕ) (i : List ℕ) where
   pub blockRefusal-clipped : blockRefusal s store buffer n u (clippedSystem w e c i) ≡ blockRefusal s store buffer n u (system w e c i)
-  unfolding blockRefusal
+  unfolding blockRefusal wrongSystem
   blockRefusal-clipped = rw (ltb-clipped 15 e (omega arith), ltb-clipped 8 c (omega arith))
 
-  -- an accepted block has the same enable bits and the same opening
+  -- an accepted block has the same enable bits and the same packets before ours
   same-system : blockRefusal s store buffer n u (system w e c i) ≡ 0
-      → (enableBits (clippedSystem w e c i) ≡ enableBits (system w e c i)) × (opening (clippedSystem w e c i) ≡ opening (system w e c i))
-  unfolding enableBits opening
+      → (enableBits (clippedSystem w e c i) ≡ enableBits (system w e c i)) × (systemPackets (clippedSystem w e c i) ≡ systemPackets (system w e c i))
+  unfolding enableBits systemPackets
   same-system z = go w (accepted s store buffer n u (system w e c i) z .allowed)
     where
       go : (w : Bool) → (w ≡ true → Allowed e c i)
-          → (enableBits (clippedSystem w e c i) ≡ enableBits (system w e c i)) × (opening (clippedSystem w e c i) ≡ opening (system w e c i))
+          → (enableBits (clippedSystem w e c i) ≡ enableBits (system w e c i)) × (systemPackets (clippedSystem w e c i) ≡ systemPackets (system w e c i))
       go true a =
           let same-e : min e 255 ≡ e = omega (arith, a refl .enable) in
           let same-c : min c 255 ≡ c = omega (arith, a refl .code) in
@@ -70,7 +70,7 @@ module _ (s : Sender) (store buffer : List ℕ) (n u : ℕ) (w : Bool) (e c : �
   -- a block call answers and leaves the same
   pub BlockCalled-clipped : {new : List ℕ} {r : Making} → BlockCalled s store buffer n u (clippedSystem w e c i) new r
       → BlockCalled s store buffer n u (system w e c i) new r
-  unfolding senderAfterBlock bufferAfterBlock answerToBlock madeOf blockFilled usedBits blockBits
+  unfolding senderAfterBlock bufferAfterBlock answerToBlock madeOf
   BlockCalled-clipped {new} {r} b = go (eqb (blockRefusal s store buffer n u (system w e c i)) 0) refl
     where
       go : (t : Bool) → eqb (blockRefusal s store buffer n u (system w e c i)) 0 ≡ t → BlockCalled s store buffer n u (system w e c i) new r

@@ -3,7 +3,7 @@ use Prim.Native.Nat.{ℕ, zero, suc, _/_, _≤_, _<_}
 use mathlib.Core.List.{List, [], _∷_, _++_}
 use native.Mathlib.Omega.{arith}
 use borrow.Author.Tests.{eqb-true}
-use lib.ListN.{length, take, set, replicate, length-append, length-set}
+use lib.ListN.{length, set, replicate, length-append, length-set}
 use lib.Seq.{length-take-le}
 use lib.Dec.{eqb}
 use Rattle.bits.specs.Bits.{Bytes}
@@ -11,52 +11,32 @@ use Rattle.bits.proofs.Bits.{Bytes-append}
 use Rattle.packet.specs.declared.Circuit.{Circuit}
 use Rattle.packet.specs.declared.Circuits.{Circuits}
 use Rattle.packet.specs.Circuits.{circuitsOf, listRefusal, noCircuit, recordOf, listing}
+use Rattle.packet.specs.Lists.{AllAre}
 use Rattle.packet.proofs.CircuitLists.{listRefusal-length}
-use Rattle.receiver.proofs.SlotsInRange.{cond-either}
+use Rattle.packet.proofs.Lists.{AllAre-append, AllAre-take, AllAre-replicate, AllAre-set}
+use Rattle.packet.proofs.Choices.{cond-either}
 use Rattle.layout.specs.Layout.{lowBytes, circuitBytes, circuitsBytes}
-use Rattle.layout.specs.Fits.{Each, Four, CircuitFits, CircuitsFit}
+use Rattle.layout.specs.Fits.{Four, CircuitFits, CircuitsFit}
 use Rattle.layout.proofs.Parts.{four-elements}
 
 -- ---- lists, each element of which fits
 
 module _ {A : Type 0} (Fits : A → Type 0) where
-  Each-append : (a b : List A) → Each Fits a → Each Fits b → Each Fits (a ++ b)
-  unfolding Each
-  Each-append [] b h k = k
-  Each-append (x ∷ a) b h k = (h .0, Each-append a b (h .1) k)
-
-  Each-take : (n : ℕ) (l : List A) → Each Fits l → Each Fits (take n l)
-  unfolding Each
-  Each-take zero l h = tt
-  Each-take (suc n) [] h = tt
-  Each-take (suc n) (x ∷ l) h = (h .0, Each-take n l (h .1))
-
-  pub Each-replicate : (n : ℕ) (x : A) → Fits x → Each Fits (replicate n x)
-  unfolding Each
-  Each-replicate zero x h = tt
-  Each-replicate (suc n) x h = (h, Each-replicate n x h)
-
-  Each-set : (l : List A) (i : ℕ) (x : A) → Fits x → Each Fits l → Each Fits (set l i x)
-  unfolding Each
-  Each-set [] i x h k = tt
-  Each-set (y ∷ l) zero x h k = (h, k .1)
-  Each-set (y ∷ l) (suc i) x h k = (k .0, Each-set l i x h (k .1))
-
   -- an array of four stays one
   pub Four-set : (l : List A) (i : ℕ) (x : A) → Fits x → Four Fits l → Four Fits (set l i x)
-  Four-set l i x h k = record { four = rw length-set (k .four); each = Each-set l i x h (k .each) }
+  Four-set l i x h k = record { four = rw length-set (k .four); each = AllAre-set Fits l i x h (k .each) }
 
 -- ---- the circuits that listing makes of bytes
 
-circuitsOf-fit : (list : List ℕ) → Bytes list → Each CircuitFits (circuitsOf list)
-unfolding circuitsOf Each Bytes
+circuitsOf-fit : (list : List ℕ) → Bytes list → AllAre CircuitFits (circuitsOf list)
+unfolding circuitsOf AllAre Bytes
 circuitsOf-fit [] h = tt
 circuitsOf-fit (a ∷ []) h = tt
 circuitsOf-fit (a ∷ e ∷ []) h = tt
 circuitsOf-fit (a ∷ e ∷ x ∷ list) h =
     (record { address = h .0; extended = h .1 .0; extension = h .1 .1 .0 }, circuitsOf-fit list (h .1 .1 .1))
 
-recordOf-fits : (cs : List Circuit) → length cs ≤ 4 → Each CircuitFits cs → CircuitsFit (recordOf cs)
+recordOf-fits : (cs : List Circuit) → length cs ≤ 4 → AllAre CircuitFits cs → CircuitsFit (recordOf cs)
 unfolding recordOf noCircuit
 recordOf-fits cs few each =
     let empty : CircuitFits noCircuit = record { address = omega arith; extended = omega arith; extension = omega arith } in
@@ -66,12 +46,12 @@ recordOf-fits cs few each =
       list =
           record {
             four = length-take-le 4 (cs ++ replicate 4 noCircuit) enough;
-            each = Each-take CircuitFits 4 _ (Each-append CircuitFits cs _ each (Each-replicate CircuitFits 4 noCircuit empty));
+            each = AllAre-take CircuitFits 4 _ (AllAre-append CircuitFits cs _ each (AllAre-replicate CircuitFits 4 noCircuit empty));
           };
     }
 
 pub listing-fits : (list : List ℕ) → Bytes list → CircuitsFit (listing list)
-unfolding listing Each
+unfolding listing AllAre
 listing-fits list are =
     cond-either CircuitsFit (eqb (listRefusal list) 0) _ _
     (λ e. recordOf-fits (circuitsOf list) (listRefusal-length list (eqb-true (listRefusal list) 0 e) .1) (circuitsOf-fit list are))

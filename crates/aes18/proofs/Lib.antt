@@ -4,7 +4,9 @@ pub mod SenderOutcomes
 pub mod ReceiverOutcomes
 pub mod Fitting
 pub mod SenderFitsKept
+pub mod BlockAnswers
 pub mod SenderCarried
+pub mod NoRoom
 pub mod SenderLists
 pub mod ReceiverFitsKept
 pub mod ReceiverCarried

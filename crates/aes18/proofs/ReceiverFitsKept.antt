@@ -12,7 +12,9 @@ use Rattle.bits.specs.Bits.{bitsOf, Bytes}
 use Rattle.bits.proofs.Bits.{Bytes-take}
 use Rattle.bits.proofs.Tests.{and-left, and-right}
 use Rattle.hdlc.specs.Stuffing.{endOnes}
-use Rattle.packet.specs.Circuits.{listed, listing}
+use Rattle.packet.specs.Circuits.{listed, listing, numberFrom}
+use Rattle.packet.specs.Messages.{longest}
+use Rattle.packet.proofs.Lists.{AllAre-replicate}
 use Rattle.framing.specs.declared.Framing.{Framing}
 use Rattle.framing.specs.declared.Check.{Check}
 use Rattle.framing.specs.declared.Check.the-variants.{Packet, Spoilt, Nothing}
@@ -20,27 +22,31 @@ use Rattle.framing.specs.declared.Scan.{Scan}
 use Rattle.framing.specs.Machine.{empty, fresh as freshFraming}
 use Rattle.framing.specs.Range.{inFives, phaseRight, inRange as framingInRange}
 use Rattle.framing.proofs.ScanInRange.{Array21, Array21-fresh}
-use Rattle.receiver.specs.declared.Slot.{Slot}
+use Rattle.notices.specs.declared.Slot.{Slot}
+use Rattle.notices.specs.declared.Hearing.{Hearing}
 use Rattle.receiver.specs.declared.Receiver.{Receiver}
-use Rattle.receiver.specs.Record.{freshSlot, fresh, slotAt, slotInRange, inRange}
-use Rattle.receiver.specs.Packets.{address, circuitIn, malformed, numberFrom}
-use Rattle.receiver.specs.Notices.{Heard, withSlot, heardAt, heardBy, systemHeard, heard}
-use Rattle.receiver.specs.Reading.{withFraming, noticed, readBy, readScan, readRefusal, receiverAfterRead}
-use Rattle.receiver.proofs.SlotsInRange.{cond-either, getD-slotsInRange, slotAfter-in-range}
-use Rattle.receiver.proofs.PacketParts.{number-lt}
+use Rattle.notices.specs.Slots.{freshSlot, slotAt, slotInRange}
+use Rattle.receiver.specs.Record.{fresh, inRange}
+use Rattle.parsing.specs.Packets.{address, circuitIn, malformed}
+use Rattle.notices.specs.Heard.{heardAt, heardBy, systemHeard, heard}
+use Rattle.receiver.specs.Reading.{withFraming, passed, noticed, readBy, readScan, readRefusal, receiverAfterRead}
+use Rattle.packet.proofs.Choices.{cond-either}
+use Rattle.notices.proofs.SlotsInRange.{getD-slotsInRange, slotAfter-in-range}
+use Rattle.packet.proofs.CircuitLists.{number-lt}
 use Rattle.receiver.proofs.InRange.{inRange-parts, arrays, scanned-in-range}
-use Rattle.layout.specs.Fits.{ReceiverSlotFits, FramingFits, ReceiverFits}
-use Rattle.aes18.proofs.Fitting.{Each-replicate, Four-set, listing-fits}
+use Rattle.layout.specs.Fits.{Four}
+use Rattle.receiver_layout.specs.Fits.{ReceiverSlotFits, FramingFits, ReceiverFits}
+use Rattle.aes18.proofs.Fitting.{Four-set, listing-fits}
 
 -- ---- a fresh record
 
 pub fresh-fits : (list : List ℕ) → Bytes list → ReceiverFits (fresh (listing list))
 unfolding fresh freshSlot freshFraming empty
 fresh-fits list are =
-    let slot : ReceiverSlotFits freshSlot = record { last = omega arith; length = omega arith; place = omega arith } in
+    let slot : ReceiverSlotFits freshSlot = record { last = omega arith; lengthFits = omega arith; place = omega arith } in
     record {
       circuits = listing-fits list are;
-      slots = record { four = refl; each = Each-replicate ReceiverSlotFits 4 freshSlot slot };
+      slots = record { four = refl; each = AllAre-replicate ReceiverSlotFits 4 freshSlot slot };
       framing =
           record {
             phase = omega arith;
@@ -54,12 +60,12 @@ fresh-fits list are =
 -- ---- what is in range fits
 
 slot-fits : (t : Slot) → slotInRange t ≡ true → ReceiverSlotFits t
-unfolding slotInRange
+unfolding slotInRange longest
 slot-fits t e =
     let last : t .last ≤ 7 = leb-true (t .last) 7 (search (and-left, and-right)) in
-    let long : t .length ≤ 4094 = leb-true (t .length) 4094 (search (and-left, and-right)) in
+    let long : t .length ≤ longest = leb-true (t .length) longest (search (and-left, and-right)) in
     let place : t .place ≤ t .length = leb-true (t .place) (t .length) (search (and-left, and-right)) in
-    record { last = omega arith; length = omega arith; place = omega arith }
+    record { last = omega arith; lengthFits = omega arith; place = omega arith }
 
 phase-most : (f : Framing) → phaseRight f ≡ true → f .phase ≤ 4
 unfolding phaseRight
@@ -85,35 +91,31 @@ framing-fits f array e =
 
 -- ---- a packet
 
-withSlot-fits : (r : Receiver) (c : ℕ) (u : Slot) → ReceiverSlotFits u → ReceiverFits r → ReceiverFits (withSlot r c u)
-unfolding withSlot
-withSlot-fits r c u h k =
-    record {
-      circuits = k .circuits;
-      slots = Four-set ReceiverSlotFits (r .slots) c u h (k .slots);
-      framing = k .framing;
-    }
-
-module _ (r : Receiver) (store p : List ℕ) (are : Bytes p) (range : inRange r ≡ true) (fits : ReceiverFits r) where
-  heardBy-fits : (n : Option ℕ) → numberFrom (listed (r .circuits)) (circuitIn p) 0 ≡ n → ReceiverFits (heardBy n r store p .receiver)
+module _ (r : Receiver) (p : List ℕ) (are : Bytes p) (range : inRange r ≡ true) (slots : Four ReceiverSlotFits (r .slots)) where
+  heardBy-fits : (n : Option ℕ) → numberFrom (listed (r .circuits)) (circuitIn p) 0 ≡ n → Four ReceiverSlotFits (heardBy n (r .slots) p .slots)
   unfolding heardBy heardAt slotAt
-  heardBy-fits none e = fits
+  heardBy-fits none e = slots
   heardBy-fits (some c) e =
-      let old : slotInRange (slotAt r c) ≡ true
+      let old : slotInRange (slotAt (r .slots) c) ≡ true
       = getD-slotsInRange (r .circuits .count) (r .slots) c (number-lt (r .circuits) (circuitIn p) c e) (inRange-parts r range .slots) in
-      withSlot-fits r c _ (slot-fits _ (slotAfter-in-range (slotAt r c) p are old)) fits
+      Four-set ReceiverSlotFits (r .slots) c _ (slot-fits _ (slotAfter-in-range (slotAt (r .slots) c) p are old)) slots
 
-  heard-fits : ReceiverFits (heard r store p .receiver)
+  heard-fits : Four ReceiverSlotFits (heard (r .circuits) (r .slots) p .slots)
   unfolding heard systemHeard
   heard-fits =
-      cond-either (λ (h : Heard). ReceiverFits (h .receiver)) (malformed p) _ _ (λ _. fits)
-      (λ _. cond-either (λ (h : Heard). ReceiverFits (h .receiver)) (eqb (address p) 0xff) _ _ (λ _. fits)
+      cond-either (λ (h : Hearing). Four ReceiverSlotFits (h .slots)) (malformed p) _ _ (λ _. slots)
+      (λ _. cond-either (λ (h : Hearing). Four ReceiverSlotFits (h .slots)) (eqb (address p) 0xff) _ _ (λ _. slots)
       (λ _. heardBy-fits (numberFrom (listed (r .circuits)) (circuitIn p) 0) refl))
 
 noticed-fits : (c : Check) (bytes : List ℕ) (r : Receiver) (store : List ℕ) → Bytes bytes → inRange r ≡ true → ReceiverFits r
     → ReceiverFits (noticed c bytes r store .receiver)
-unfolding noticed
-noticed-fits (Packet n) bytes r store are range fits = heard-fits r store (take n bytes) (Bytes-take n bytes are) range fits
+unfolding noticed passed
+noticed-fits (Packet n) bytes r store are range fits =
+    record {
+      circuits = fits .circuits;
+      slots = heard-fits r (take n bytes) (Bytes-take n bytes are) range (fits .slots);
+      framing = fits .framing;
+    }
 noticed-fits Spoilt bytes r store are range fits = fits
 noticed-fits Nothing bytes r store are range fits = fits
 

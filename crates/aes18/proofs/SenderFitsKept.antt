@@ -10,6 +10,8 @@ use lib.Dec.{eqb}
 use borrow.Author.Tests.{eqb-true}
 use Rattle.bits.specs.Bits.{Bytes}
 use Rattle.packet.specs.Circuits.{listing}
+use Rattle.packet.specs.Messages.{longest}
+use Rattle.packet.proofs.Lists.{AllAre-replicate}
 use Rattle.packet.proofs.Segments.{packets-most}
 use Rattle.offering.specs.declared.Slot.{Slot}
 use Rattle.offering.specs.declared.Sender.{Sender}
@@ -20,11 +22,11 @@ use Rattle.offering.proofs.Offers.{offerRefusal-zero}
 use Rattle.picking.specs.Picking.{pick, advanced, served}
 use Rattle.picking.proofs.PickingLaws.{pick-waits, pick-lt, slotInRange-advanced, served-in-range}
 use Rattle.writing.specs.NextFrame.{nextFrame}
-use Rattle.sender.specs.Blocks.{Filled, System, full, andThen, fill, waiting, filled, blockFilled, blockRefusal, senderAfterBlock}
+use Rattle.sender.specs.Blocks.{Filled, System, systemPackets, enableBits, full, andThen, fill, waiting, fillUp, blockFilled, blockRefusal, senderAfterBlock}
 use Rattle.sender.proofs.Filling.{placing-cases}
 use Rattle.sender.proofs.BlockRefusals.{accepted}
-use Rattle.layout.specs.Fits.{SenderSlotFits, SenderFits}
-use Rattle.aes18.proofs.Fitting.{Each-replicate, Four-set, listing-fits}
+use Rattle.sender_layout.specs.Fits.{SenderSlotFits, SenderFits}
+use Rattle.aes18.proofs.Fitting.{Four-set, listing-fits}
 
 -- ---- listing
 
@@ -37,13 +39,13 @@ fits-fresh list are =
           record {
             four = refl;
             each =
-                Each-replicate SenderSlotFits 4 freshSlot
+                AllAre-replicate SenderSlotFits 4 freshSlot
                 (record {
                   index = omega arith;
                   priority = omega arith;
                   repetition = omega arith;
                   copy = omega arith;
-                  length = omega arith;
+                  lengthFits = omega arith;
                   place = omega arith;
                 });
           };
@@ -53,13 +55,14 @@ fits-fresh list are =
 -- ---- a slot in range
 
 slot-fits : (t : Slot) → SlotFacts t → SenderSlotFits t
+unfolding longest
 slot-fits t f =
     record {
       index = omega (arith, f .index);
       priority = omega (arith, f .priority);
       repetition = omega (arith, f .repetition);
       copy = omega (arith, f .copy, f .repetition);
-      length = omega (arith, f .short);
+      lengthFits = omega (arith, f .short);
       place = omega (arith, f .place, packets-most (t .length) (f .short));
     }
 
@@ -115,9 +118,9 @@ fits-filled (suc n) s store at enable u range fits =
     (fits-served s enable c range p fits))
 
 pub fits-made : (s : Sender) (store block : List ℕ) (n u : ℕ) (y : System) → SenderFits s → SenderFits (senderAfterBlock s store block n u y)
-unfolding senderAfterBlock blockFilled filled
+unfolding senderAfterBlock blockFilled fillUp
 fits-made s store block n u y fits = go (eqb (blockRefusal s store block n u y) 0) refl
   where
-    go : (t : Bool) → eqb (blockRefusal s store block n u y) 0 ≡ t → SenderFits (cond t (blockFilled s store u y .sender) s)
+    go : (t : Bool) → eqb (blockRefusal s store block n u y) 0 ≡ t → SenderFits (cond t (blockFilled s store u (systemPackets y) (enableBits y) .sender) s)
     go true e = fits-filled (waiting s) s store _ _ u (accepted s store block n u y (eqb-true _ 0 e) .record-in-range) fits
     go false e = fits

@@ -1,50 +1,93 @@
 -- Lists of the sender's exported calls leave, in bytes, what document 01's calls leave: the record's bytes carry the record from call to call.
-use Prim.Native.Nat.{ℕ, _≤_}
+use Prim.Native.Nat.{ℕ, _≤_, _<_}
+use mathlib.Core.Bool.{Bool, true, false, cond, not, _&&_}
 use mathlib.Core.List.{List, [], _∷_}
-use mathlib.Core.Path.{_≡_, refl, ap, subst, _∙_}
+use mathlib.Core.Path.{_≡_, refl, sym, ap, subst, _∙_}
 use native.Mathlib.Omega.{arith}
 use lib.ListN.{length}
-use lib.Dec.{eqb}
+use lib.Dec.{leb, eqb}
 use Rattle.bits.specs.Bits.{Bytes}
 use Rattle.sender.specs.Blocks.{System, bufferAfterBlock}
+use Rattle.sender.specs.BlockCalls.{framesPlaced, bitsUsed}
 use Rattle.queues.specs.Calls.{Call, offer, block, End, freshEnd, accepted, afterCall, afterCalls}
-use Rattle.layout.specs.SenderBytes.{senderIn}
-use Rattle.layout.specs.Fits.{Each}
-use Rattle.aes18.specs.SenderCalls.{listRecord, blockWritten}
-use Rattle.aes18.specs.Lent.{Lent, LentCall, numberOfCall, afterLentCall, afterLentCalls, callsOf, CallsHaveRoom}
-use Rattle.aes18.proofs.SenderCarried.{Carried, list-carries, offer-carries, block-carries, offer-answers, block-answers}
+use Rattle.sender_layout.specs.SenderBytes.{senderLength, senderIn}
+use Rattle.sender_layout.specs.Answers.{blockAnswerLength, placedTold, usedTold}
+use Rattle.aes18.specs.Room.{noRoom}
+use Rattle.aes18.specs.SenderCalls.{listRecord, blockWritten, blockAnswer}
+use Rattle.aes18.specs.Lent.{Lent, LentCall, callAnswered, callRefusal, callHasRoom, afterLentCall, afterLentCalls, callsOf}
+use Rattle.aes18.proofs.NoRoom.{callRefusal-below, answered-255}
+use Rattle.aes18.proofs.SenderOutcomes.{list-short, offer-short, block-short}
+use Rattle.aes18.proofs.SenderCarried.{Carried, list-carries, offer-carries, block-carries, offer-answers, block-answers, block-told}
 
 -- they are a sender's state, in as many bytes as were lent first
 pub record CarriedEnd (bytes : List ℕ) (e : Lent) (s : End) : Type 0 where
   pub sender : Carried bytes (e .bytes) (s .sender)
   pub store : e .store ≡ s .store
 
-module _ (bytes : List ℕ) (room : 46 ≤ length bytes) where
-  module _ (e : Lent) (s : End) (h : CarriedEnd bytes e s) (answer : List ℕ) (room-answer : 8 ≤ length answer) where
+-- a call is accepted where it has room and document 01 accepts it
+answered-0 : (room : Bool) (refusal : ℕ) → eqb (cond room refusal noRoom) 0 ≡ room && eqb refusal 0
+unfolding noRoom
+answered-0 true refusal = refl
+answered-0 false refusal = refl
+
+accepted-refusal : (s : End) (c : Call) → eqb (callRefusal s c) 0 ≡ accepted s c
+unfolding callRefusal accepted
+accepted-refusal s (offer c p r message) = refl
+accepted-refusal s (block n u buffer y) = refl
+
+-- a call that has no room leaves the state
+after-cond : (room : Bool) (s : End) (c : Call) (cs : List Call) → afterCalls (cond room (afterCall s c) s) cs ≡ afterCalls s (cond room (c ∷ cs) cs)
+unfolding afterCalls
+after-cond true s c cs = refl
+after-cond false s c cs = refl
+
+module _ (bytes : List ℕ) (room : senderLength ≤ length bytes) where
+  module _ (e : Lent) (s : End) (h : CarriedEnd bytes e s) (answer : List ℕ) where
     same : _≡_ {A = End} (record { sender = senderIn (e .bytes); store = e .store }) s
     same = λ i. record { sender = h .sender .sender i; store = h .store i }
 
-    still : 46 ≤ length (e .bytes)
+    still : senderLength ≤ length (e .bytes)
     still = omega (arith, h .sender .long)
 
-    -- a call is accepted where document 01's is
-    pub call-accepted : (c : Call) → eqb (numberOfCall e c answer) 0 ≡ accepted s c
-    unfolding numberOfCall accepted
-    call-accepted (offer c p r message) =
-        ap (λ n. eqb n 0) (offer-answers (e .bytes) still (e .store) c p r message .0) ∙ ap (λ (s : End). accepted s (offer c p r message)) same
-    call-accepted (block n u buffer y) =
-        ap (λ n. eqb n 0) (block-answers (e .bytes) still (e .store) n u y buffer answer room-answer .0) ∙ ap (λ (s : End). accepted s (block n u buffer y)) same
+    -- a call answers the number of document 01's, and 255 where it has no room
+    pub call-number : (c : Call) → callAnswered e c answer ≡ cond (callHasRoom c answer) (callRefusal s c) noRoom
+    unfolding callAnswered callHasRoom callRefusal
+    call-number (offer c p r message) =
+        offer-answers (e .bytes) still (e .store) c p r message .0 ∙ ap (λ (s : End). callRefusal s (offer c p r message)) same
+    call-number (block n u buffer y) =
+        block-answers (e .bytes) still (e .store) n u y buffer answer .0
+        ∙ ap (λ (s : End). cond (leb blockAnswerLength (length answer)) (callRefusal s (block n u buffer y)) noRoom) same
+
+    -- so it is accepted where it has room and document 01's is
+    pub call-accepted : (c : Call) → eqb (callAnswered e c answer) 0 ≡ callHasRoom c answer && accepted s c
+    call-accepted c = rw (call-number c, ← accepted-refusal s c) (answered-0 (callHasRoom c answer) (callRefusal s c))
+
+    -- and 255 is answered where it has no room, and nowhere else
+    pub call-255 : (c : Call) → eqb (callAnswered e c answer) noRoom ≡ not (callHasRoom c answer)
+    call-255 c = rw (call-number c) (answered-255 (callHasRoom c answer) (callRefusal s c) (callRefusal-below s c))
 
     -- a block is document 01's
-    pub call-block : (n u : ℕ) (y : System) (buffer : List ℕ)
-        → blockWritten (e .bytes) (e .store) n u y buffer answer ≡ bufferAfterBlock (s .sender) (s .store) buffer n u y
+    pub call-block : (n u : ℕ) (y : System) (buffer : List ℕ) → blockWritten (e .bytes) (e .store) n u y buffer answer
+        ≡ cond (callHasRoom (block n u buffer y) answer) (bufferAfterBlock (s .sender) (s .store) buffer n u y) buffer
+    unfolding callHasRoom
     call-block n u y buffer =
-        block-answers (e .bytes) still (e .store) n u y buffer answer room-answer .1
-        ∙ ap (λ (s : End). bufferAfterBlock (s .sender) (s .store) buffer n u y) same
+        block-answers (e .bytes) still (e .store) n u y buffer answer .1
+        ∙ ap (λ (s : End). cond (leb blockAnswerLength (length answer)) (bufferAfterBlock (s .sender) (s .store) buffer n u y) buffer) same
 
-    -- every call leaves the state that document 01's leaves
-    pub call-carried : (c : Call) → CarriedEnd bytes (afterLentCall e c answer) (afterCall s c)
-    unfolding afterLentCall afterCall
+    -- the numbers in the answer of an accepted call are document 01's
+    pub call-answer : (n u : ℕ) (y : System) (buffer : List ℕ) → callAnswered e (block n u buffer y) answer ≡ 0
+        → (placedTold (blockAnswer (e .bytes) (e .store) n u y buffer answer) ≡ framesPlaced (s .sender) (s .store) u y)
+        × (usedTold (blockAnswer (e .bytes) (e .store) n u y buffer answer) ≡ bitsUsed (s .sender) (s .store) u y)
+    unfolding callAnswered
+    call-answer n u y buffer z =
+        let told = block-told (e .bytes) still (e .store) n u y buffer answer z in (
+          told .0 ∙ ap (λ (s : End). framesPlaced (s .sender) (s .store) u y) same,
+          told .1 ∙ ap (λ (s : End). bitsUsed (s .sender) (s .store) u y) same,
+        )
+
+    -- every call leaves the state that document 01's leaves; one that has no room leaves it as it was
+    pub call-carried : (c : Call) → CarriedEnd bytes (afterLentCall e c answer) (cond (callHasRoom c answer) (afterCall s c) s)
+    unfolding afterLentCall afterCall callHasRoom
     call-carried (offer c p r message) =
         let k = offer-carries (e .bytes) (h .sender .each) still (e .store) c p r message in
         subst (λ (s : End). CarriedEnd bytes (afterLentCall e (offer c p r message) answer) (afterCall s (offer c p r message))) same
@@ -53,19 +96,58 @@ module _ (bytes : List ℕ) (room : 46 ≤ length bytes) where
           store = offer-answers (e .bytes) still (e .store) c p r message .1;
         })
     call-carried (block n u buffer y) =
-        let k = block-carries (e .bytes) (h .sender .each) still (e .store) n u y buffer answer room-answer in
-        subst (λ (s : End). CarriedEnd bytes (afterLentCall e (block n u buffer y) answer) (afterCall s (block n u buffer y))) same
-        (record { sender = record { sender = k .sender; each = k .each; long = k .long ∙ h .sender .long }; store = refl })
+        let k = block-carries (e .bytes) (h .sender .each) still (e .store) n u y buffer answer in
+        subst
+        (λ (s : End). CarriedEnd bytes (afterLentCall e (block n u buffer y) answer)
+        (cond (leb blockAnswerLength (length answer)) (afterCall s (block n u buffer y)) s))
+        same (go (leb blockAnswerLength (length answer)) k)
+      where
+        go : (t : Bool)
+            → Carried (e .bytes) (afterLentCall e (block n u buffer y) answer .bytes)
+            (cond t (afterCall (record { sender = senderIn (e .bytes); store = e .store }) (block n u buffer y) .sender) (senderIn (e .bytes)))
+            → CarriedEnd bytes (afterLentCall e (block n u buffer y) answer)
+            (cond t (afterCall (record { sender = senderIn (e .bytes); store = e .store }) (block n u buffer y))
+            (record { sender = senderIn (e .bytes); store = e .store }))
+        go true k = record { sender = record { sender = k .sender; each = k .each; long = k .long ∙ h .sender .long }; store = refl }
+        go false k = record { sender = record { sender = k .sender; each = k .each; long = k .long ∙ h .sender .long }; store = refl }
 
-  rest-carried : (cs : List LentCall) → CallsHaveRoom cs → (e : Lent) (s : End) → CarriedEnd bytes e s
+  rest-carried : (cs : List LentCall) (e : Lent) (s : End) → CarriedEnd bytes e s
       → CarriedEnd bytes (afterLentCalls e cs) (afterCalls s (callsOf cs))
-  unfolding afterLentCalls afterCalls Each
-  rest-carried [] a e s h = h
-  rest-carried (c ∷ cs) a e s h =
-      rest-carried cs (a .1) (afterLentCall e (c .call) (c .answer)) (afterCall s (c .call)) (call-carried e s h (c .answer) (a .0) (c .call))
+  unfolding afterLentCalls afterCalls callsOf
+  rest-carried [] e s h = h
+  rest-carried (c ∷ cs) e s h =
+      let room = callHasRoom (c .call) (c .answer) in
+      subst (λ t. CarriedEnd bytes (afterLentCalls (afterLentCall e (c .call) (c .answer)) cs) t) (after-cond room s (c .call) (callsOf cs))
+      (rest-carried cs (afterLentCall e (c .call) (c .answer)) (cond room (afterCall s (c .call)) s) (call-carried e s h (c .answer) (c .call)))
 
   -- so do a listing and any calls after it
-  pub calls-carried : Bytes bytes → (list : List ℕ) → Bytes list → (store : List ℕ) (cs : List LentCall) → CallsHaveRoom cs
+  pub calls-carried : Bytes bytes → (list : List ℕ) → Bytes list → (store : List ℕ) (cs : List LentCall)
       → CarriedEnd bytes (afterLentCalls (record { bytes = listRecord bytes list; store = store }) cs) (afterCalls (freshEnd list store) (callsOf cs))
-  calls-carried are list listed store cs a =
-      rest-carried cs a _ (freshEnd list store) (record { sender = list-carries bytes are room list listed; store = refl })
+  calls-carried are list listed store cs =
+      rest-carried cs _ (freshEnd list store) (record { sender = list-carries bytes are room list listed; store = refl })
+
+-- ---- a record shorter than it has to be
+
+-- every call is answered by 255 and leaves all as it was
+module _ (bytes store : List ℕ) (short : length bytes < senderLength) where
+  lent : Lent
+  lent = record { bytes = bytes; store = store }
+
+  call-left : (c : Call) (answer : List ℕ) → afterLentCall lent c answer ≡ lent
+  unfolding afterLentCall lent
+  call-left (offer c p r message) answer =
+      let (number, same, kept) = offer-short bytes store c p r message short in
+      λ i. record { bytes = sym same i; store = sym kept i }
+  call-left (block n u buffer y) answer =
+      let (number, same, written, told) = block-short bytes store n u y buffer answer short in
+      λ i. record { bytes = sym same i; store = store }
+
+  rest-left : (cs : List LentCall) → afterLentCalls lent cs ≡ lent
+  unfolding afterLentCalls
+  rest-left [] = refl
+  rest-left (c ∷ cs) = ap (λ e. afterLentCalls e cs) (call-left (c .call) (c .answer)) ∙ rest-left cs
+
+  pub calls-left : (list : List ℕ) (cs : List LentCall)
+      → afterLentCalls (record { bytes = listRecord bytes list; store = store }) cs ≡ record { bytes = bytes; store = store }
+  unfolding lent
+  calls-left list cs = rw (← list-short bytes list short .1) (rest-left cs)

@@ -18,16 +18,16 @@ use Rattle.offering.specs.Record.{fresh}
 use Rattle.offering.specs.Offering.{offerRefusal, senderAfterOffer, storeAfterOffer}
 use Rattle.sender.specs.Blocks.{System, bufferAfterBlock}
 use Rattle.sender.specs.BlockCalls.{system, madeOf, answerToBlock, BlockCalled}
-use Rattle.layout.specs.SenderBytes.{senderBytes, senderIn}
-use Rattle.layout.specs.Answers.{blockAnswerBytes}
+use Rattle.sender_layout.specs.SenderBytes.{senderLength, senderBytes, senderIn}
+use Rattle.sender_layout.specs.Answers.{blockAnswerLength, blockAnswerBytes}
 use Rattle.aes18.specs.Room.{noRoom}
 use Rattle.aes18.specs.SenderCalls.{
-  listNumber,
+  listAnswered,
   listRecord,
-  offerNumber,
+  offerAnswered,
   offerRecord,
   offerStore,
-  blockNumber,
+  blockAnswered,
   blockRecord,
   blockWritten,
   blockAnswer,
@@ -43,16 +43,16 @@ number-of {n} e f = e ∙ ap answerNumber f ∙ answerNumber-answerOf n
 module _ (bytes list : List ℕ) where
   -- what a listing answers, and the record then
   abbrev Listed : ℕ → List ℕ → Type 0
-  Listed number new = (number ≡ listNumber bytes list) × (new ≡ listRecord bytes list)
+  Listed number new = (number ≡ listAnswered bytes list) × (new ≡ listRecord bytes list)
 
-  pub list-short : length bytes < 46 → Listed 255 bytes
-  unfolding listNumber listRecord noRoom
-  list-short h = rw (lt-ltb (length bytes) 46 h) (refl, refl)
+  pub list-short : length bytes < senderLength → Listed 255 bytes
+  unfolding listAnswered listRecord noRoom
+  list-short h = rw (lt-ltb (length bytes) senderLength h) (refl, refl)
 
-  pub list-long : 46 ≤ length bytes → {number : ℕ} {s : Sender} {new : List ℕ}
+  pub list-long : senderLength ≤ length bytes → {number : ℕ} {s : Sender} {new : List ℕ}
       → number ≡ listRefusal list → s ≡ fresh (listing list) → new ≡ sets bytes 0 (senderBytes s) → Listed number new
-  unfolding listNumber listRecord
-  list-long h e f g = rw (le-ltb (length bytes) 46 h) (e, g ∙ ap (λ s. sets bytes 0 (senderBytes s)) f)
+  unfolding listAnswered listRecord
+  list-long h e f g = rw (le-ltb (length bytes) senderLength h) (e, g ∙ ap (λ s. sets bytes 0 (senderBytes s)) f)
 
 -- ---- offering
 
@@ -60,12 +60,12 @@ module _ (bytes store : List ℕ) (c p r : ℕ) (message : List ℕ) where
   -- what an offer answers, and the record and the store then
   abbrev Offered : ℕ → List ℕ → List ℕ → Type 0
   Offered number new newStore =
-      (number ≡ offerNumber bytes store c p r message) × (new ≡ offerRecord bytes store c p r message)
+      (number ≡ offerAnswered bytes store c p r message) × (new ≡ offerRecord bytes store c p r message)
       × (newStore ≡ offerStore bytes store c p r message)
 
-  pub offer-short : length bytes < 46 → Offered 255 bytes store
-  unfolding offerNumber offerRecord offerStore noRoom
-  offer-short h = rw (lt-ltb (length bytes) 46 h) (refl, refl, refl)
+  pub offer-short : length bytes < senderLength → Offered 255 bytes store
+  unfolding offerAnswered offerRecord offerStore noRoom
+  offer-short h = rw (lt-ltb (length bytes) senderLength h) (refl, refl, refl)
 
   -- the offer that the code makes, with its numbers clipped
   pub offer-clipped : {s : Sender} {p′ r′ : ℕ} → s ≡ senderIn bytes → p′ ≡ min p 255 → r′ ≡ min r 255 → {a : Answer} {t : Sender} {l : List ℕ}
@@ -78,20 +78,20 @@ module _ (bytes store : List ℕ) (c p r : ℕ) (message : List ℕ) where
     z ∙ rw (e, f, g, storeAfterOffer-clipped (senderIn bytes) store c p r message),
   )
 
-  module _ (h : 46 ≤ length bytes) {number : ℕ} {newStore : List ℕ} (e : number ≡ offerRefusal (senderIn bytes) store c p r message)
+  module _ (h : senderLength ≤ length bytes) {number : ℕ} {newStore : List ℕ} (e : number ≡ offerRefusal (senderIn bytes) store c p r message)
       (f : newStore ≡ storeAfterOffer (senderIn bytes) store c p r message) where
     pub offer-refused : (number ≡ 0 → ⊥) → Offered number bytes newStore
-    unfolding offerNumber offerRecord offerStore storeAfterOffer
+    unfolding offerAnswered offerRecord offerStore storeAfterOffer
     offer-refused k =
         let n : eqb (offerRefusal (senderIn bytes) store c p r message) 0 ≡ false = ap (λ m. eqb m 0) (sym e) ∙ ne-eqb number 0 k in
-        rw (le-ltb (length bytes) 46 h, n) (e, refl, f ∙ rw n)
+        rw (le-ltb (length bytes) senderLength h, n) (e, refl, f ∙ rw n)
 
     pub offer-accepted : number ≡ 0 → {s : Sender} {new : List ℕ} → s ≡ senderAfterOffer (senderIn bytes) store c p r message
         → new ≡ sets bytes 0 (senderBytes s) → Offered 0 new newStore
-    unfolding offerNumber offerRecord offerStore
+    unfolding offerAnswered offerRecord offerStore
     offer-accepted z g k =
         let n : offerRefusal (senderIn bytes) store c p r message ≡ 0 = sym e ∙ z in
-        rw (le-ltb (length bytes) 46 h, n) (refl, k ∙ ap (λ s. sets bytes 0 (senderBytes s)) g, f)
+        rw (le-ltb (length bytes) senderLength h, n) (refl, k ∙ ap (λ s. sets bytes 0 (senderBytes s)) g, f)
 
 -- ---- block making
 
@@ -125,31 +125,31 @@ module _ (bytes store : List ℕ) (n u : ℕ) (y : System) (block answer : List 
   -- what a block call answers, and the record, the block and the answer's bytes then
   abbrev Blocked : ℕ → List ℕ → List ℕ → List ℕ → Type 0
   Blocked number new newBlock newAnswer =
-      (number ≡ blockNumber bytes store n u y block answer) × (new ≡ blockRecord bytes store n u y block answer)
+      (number ≡ blockAnswered bytes store n u y block answer) × (new ≡ blockRecord bytes store n u y block answer)
       × (newBlock ≡ blockWritten bytes store n u y block answer) × (newAnswer ≡ blockAnswer bytes store n u y block answer)
 
-  pub block-short : length bytes < 46 → Blocked 255 bytes block answer
-  unfolding blockNumber blockRecord blockWritten blockAnswer noRoom
-  block-short h = rw (lt-ltb (length bytes) 46 h) (refl, refl, refl, refl)
+  pub block-short : length bytes < senderLength → Blocked 255 bytes block answer
+  unfolding blockAnswered blockRecord blockWritten blockAnswer noRoom
+  block-short h = rw (lt-ltb (length bytes) senderLength h) (refl, refl, refl, refl)
 
-  module _ (h : 46 ≤ length bytes) where
-    pub block-short-answer : length answer < 8 → Blocked 255 bytes block answer
-    unfolding blockNumber blockRecord blockWritten blockAnswer noRoom
-    block-short-answer a = rw (le-ltb (length bytes) 46 h, lt-ltb (length answer) 8 a) (refl, refl, refl, refl)
+  module _ (h : senderLength ≤ length bytes) where
+    pub block-short-answer : length answer < blockAnswerLength → Blocked 255 bytes block answer
+    unfolding blockAnswered blockRecord blockWritten blockAnswer noRoom
+    block-short-answer a = rw (le-ltb (length bytes) senderLength h, lt-ltb (length answer) blockAnswerLength a) (refl, refl, refl, refl)
 
-    module _ (a : 8 ≤ length answer) {newBlock : List ℕ} {m : Making} (b : BlockCalled (senderIn bytes) store block n u y newBlock m) where
+    module _ (a : blockAnswerLength ≤ length answer) {newBlock : List ℕ} {m : Making} (b : BlockCalled (senderIn bytes) store block n u y newBlock m) where
       pub block-refused : (k : ℕ) → m .made ≡ Refused k → Blocked k bytes newBlock answer
-      unfolding blockNumber blockRecord blockWritten blockAnswer bufferAfterBlock answerToBlock
+      unfolding blockAnswered blockRecord blockWritten blockAnswer bufferAfterBlock answerToBlock
       block-refused k e =
           let (number, refused) = refused-by _ _ _ k (sym e ∙ b .made) in
-          rw (le-ltb (length bytes) 46 h, le-ltb (length answer) 8 a, refused) (sym number, refl, b .buffer ∙ rw refused, refl)
+          rw (le-ltb (length bytes) senderLength h, le-ltb (length answer) blockAnswerLength a, refused) (sym number, refl, b .buffer ∙ rw refused, refl)
 
       pub block-accepted : (placed used : ℕ) → m .made ≡ Block placed used → {new newAnswer : List ℕ} → new ≡ sets bytes 0 (senderBytes (m .sender))
           → newAnswer ≡ sets answer 0 (blockAnswerBytes placed used) → Blocked 0 new newBlock newAnswer
-      unfolding blockNumber blockRecord blockWritten blockAnswer answerToBlock
+      unfolding blockAnswered blockRecord blockWritten blockAnswer answerToBlock
       block-accepted placed used e f g =
           let (none, frames, count) = made-by _ _ _ placed used (sym e ∙ b .made) in
-          rw (le-ltb (length bytes) 46 h, le-ltb (length answer) 8 a, none) (
+          rw (le-ltb (length bytes) senderLength h, le-ltb (length answer) blockAnswerLength a, none) (
             refl,
             f ∙ ap (λ s. sets bytes 0 (senderBytes s)) (b .sender),
             b .buffer,

@@ -1,13 +1,17 @@
 -- Lists of exported calls on the bytes of one record and one store, and document 01's calls that they are. `calls-carried` of each end says that they leave, in
 -- bytes, what document 01's calls leave.
-use Prim.Native.Nat.{ℕ, _≤_}
-use mathlib.Core.List.{List, [], _∷_, map}
+use Prim.Native.Nat.{ℕ}
+use mathlib.Core.Bool.{Bool, true, cond}
+use mathlib.Core.List.{List, [], _∷_}
 use lib.ListN.{length}
-use Rattle.queues.specs.Calls.{Call, offer, block}
+use lib.Dec.{leb}
+use Rattle.offering.specs.Offering.{offerRefusal}
+use Rattle.sender.specs.Blocks.{blockRefusal}
+use Rattle.queues.specs.Calls.{Call, offer, block, End}
 use Rattle.receiver.specs.Reads.{ReadCall}
-use Rattle.layout.specs.Fits.{Each}
-use Rattle.layout.specs.Answers.{blockAnswerLength, readAnswerLength}
-use Rattle.aes18.specs.SenderCalls.{offerNumber, offerRecord, offerStore, blockNumber, blockRecord}
+use Rattle.sender_layout.specs.Answers.{blockAnswerLength}
+use Rattle.receiver_layout.specs.Answers.{readAnswerLength}
+use Rattle.aes18.specs.SenderCalls.{offerAnswered, offerRecord, offerStore, blockAnswered, blockRecord}
 use Rattle.aes18.specs.ReceiverCalls.{readRecord, readStore}
 
 -- a record's bytes and the store between two calls
@@ -17,14 +21,25 @@ pub record Lent : Type 0 where
 
 -- ---- the sender
 
--- a call, and the bytes lent for its answer; an offer needs none
+-- a call, and the bytes lent for its answer
 pub record LentCall : Type 0 where
   pub call : Call
   pub answer : List ℕ
 
-unfoldable pub numberOfCall : Lent → Call → List ℕ → ℕ
-numberOfCall e (offer c p r message) answer = offerNumber (e .bytes) (e .store) c p r message
-numberOfCall e (block n u buffer y) answer = blockNumber (e .bytes) (e .store) n u y buffer answer
+-- the number answered
+unfoldable pub callAnswered : Lent → Call → List ℕ → ℕ
+callAnswered e (offer c p r message) answer = offerAnswered (e .bytes) (e .store) c p r message
+callAnswered e (block n u buffer y) answer = blockAnswered (e .bytes) (e .store) n u y buffer answer
+
+-- document 01's refusal
+unfoldable pub callRefusal : End → Call → ℕ
+callRefusal s (offer c p r message) = offerRefusal (s .sender) (s .store) c p r message
+callRefusal s (block n u buffer y) = blockRefusal (s .sender) (s .store) buffer n u y
+
+-- the answer has room; an offer needs none
+unfoldable pub callHasRoom : Call → List ℕ → Bool
+callHasRoom (offer c p r message) answer = true
+callHasRoom (block n u buffer y) answer = leb blockAnswerLength (length answer)
 
 unfoldable pub afterLentCall : Lent → Call → List ℕ → Lent
 afterLentCall e (offer c p r message) answer =
@@ -35,12 +50,10 @@ unfoldable pub afterLentCalls : Lent → List LentCall → Lent
 afterLentCalls e [] = e
 afterLentCalls e (c ∷ cs) = afterLentCalls (afterLentCall e (c .call) (c .answer)) cs
 
-abbrev pub callsOf : List LentCall → List Call
-callsOf cs = map (λ (c : LentCall). c .call) cs
-
--- there is room for each answer
-abbrev pub CallsHaveRoom : List LentCall → Type 0
-CallsHaveRoom cs = Each (λ (c : LentCall). blockAnswerLength ≤ length (c .answer)) cs
+-- document 01's calls among them: one that has no room, and is answered by 255, is none
+unfoldable pub callsOf : List LentCall → List Call
+callsOf [] = []
+callsOf (c ∷ cs) = cond (callHasRoom (c .call) (c .answer)) (c .call ∷ callsOf cs) (callsOf cs)
 
 -- ---- the receiver
 
@@ -48,6 +61,10 @@ CallsHaveRoom cs = Each (λ (c : LentCall). blockAnswerLength ≤ length (c .ans
 pub record LentRead : Type 0 where
   pub call : ReadCall
   pub answer : List ℕ
+
+-- the answer has room
+unfoldable pub readHasRoom : LentRead → Bool
+readHasRoom c = leb readAnswerLength (length (c .answer))
 
 unfoldable pub afterLentRead : Lent → LentRead → Lent
 afterLentRead e c =
@@ -60,9 +77,7 @@ unfoldable pub afterLentReads : Lent → List LentRead → Lent
 afterLentReads e [] = e
 afterLentReads e (c ∷ cs) = afterLentReads (afterLentRead e c) cs
 
-abbrev pub readsOf : List LentRead → List ReadCall
-readsOf cs = map (λ (c : LentRead). c .call) cs
-
--- there is room for each answer
-abbrev pub ReadsHaveRoom : List LentRead → Type 0
-ReadsHaveRoom cs = Each (λ (c : LentRead). readAnswerLength ≤ length (c .answer)) cs
+-- document 01's calls among them: one that has no room, and is answered by 255, is none
+unfoldable pub readsOf : List LentRead → List ReadCall
+readsOf [] = []
+readsOf (c ∷ cs) = cond (readHasRoom c) (c .call ∷ readsOf cs) (readsOf cs)

@@ -9,15 +9,15 @@ use lib.Dec.{ltb, eqb}
 use Rattle.packet.specs.Circuits.{listRefusal, listing}
 use Rattle.receiver.specs.Record.{fresh}
 use Rattle.receiver.specs.Reading.{readScan, readBy, readRefusal, receiverAfterRead, storeAfterRead, bitsRead}
-use Rattle.layout.specs.ReceiverBytes.{receiverLength, receiverBytes, receiverIn, isReceiver}
-use Rattle.layout.specs.Answers.{readAnswerLength, readAnswerBytes}
+use Rattle.receiver_layout.specs.ReceiverBytes.{receiverLength, receiverBytes, receiverIn, isReceiver}
+use Rattle.receiver_layout.specs.Answers.{readAnswerLength, readAnswerBytes}
 use Rattle.aes18.specs.Room.{noRoom}
 
 -- ---- listing
 
 -- the number answered
-unfoldable pub listNumber : List ℕ → List ℕ → ℕ
-listNumber bytes list = cond (ltb (length bytes) receiverLength) noRoom (listRefusal list)
+unfoldable pub listAnswered : List ℕ → List ℕ → ℕ
+listAnswered bytes list = cond (ltb (length bytes) receiverLength) noRoom (listRefusal list)
 
 -- "a refusal returns a record of no circuits"
 unfoldable pub listRecord : List ℕ → List ℕ → List ℕ
@@ -26,23 +26,23 @@ listRecord bytes list = cond (ltb (length bytes) receiverLength) bytes (sets byt
 -- ---- reading
 
 -- the number answered; bytes that no record is laid out as are "a record out of range"
-unfoldable pub readNumber : List ℕ → List ℕ → List ℕ → ℕ → ℕ → List ℕ → ℕ
-readNumber bytes store bits from to answer =
+unfoldable pub readAnswered : List ℕ → List ℕ → List ℕ → ℕ → ℕ → List ℕ → ℕ
+readAnswered bytes store bits from to answer =
     cond (ltb (length bytes) receiverLength || ltb (length answer) readAnswerLength) noRoom
     (cond (not (isReceiver bytes)) 14 (readRefusal (receiverIn bytes) store bits from to))
 
 -- what record, store and answer are then
 unfoldable pub readRecord : List ℕ → List ℕ → List ℕ → ℕ → ℕ → List ℕ → List ℕ
 readRecord bytes store bits from to answer =
-    cond (eqb (readNumber bytes store bits from to answer) 0)
+    cond (eqb (readAnswered bytes store bits from to answer) 0)
     (sets bytes 0 (receiverBytes (receiverAfterRead (receiverIn bytes) store bits from to))) bytes
 
 unfoldable pub readStore : List ℕ → List ℕ → List ℕ → ℕ → ℕ → List ℕ → List ℕ
 readStore bytes store bits from to answer =
-    cond (eqb (readNumber bytes store bits from to answer) 0) (storeAfterRead (receiverIn bytes) store bits from to) store
+    cond (eqb (readAnswered bytes store bits from to answer) 0) (storeAfterRead (receiverIn bytes) store bits from to) store
 
 unfoldable pub readAnswer : List ℕ → List ℕ → List ℕ → ℕ → ℕ → List ℕ → List ℕ
 readAnswer bytes store bits from to answer =
     let r = receiverIn bytes in
-    cond (eqb (readNumber bytes store bits from to answer) 0)
+    cond (eqb (readAnswered bytes store bits from to answer) 0)
     (sets answer 0 (readAnswerBytes (readBy (readScan r bits from to) r store .notice) (bitsRead r store bits from to))) answer

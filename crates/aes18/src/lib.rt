@@ -1,13 +1,11 @@
 // The AES18 user-bit channel for C and Rust: the calls of document 01 over records and answers laid out in bytes (include/aes18.h).
 
-use layout::answers;
+use layout::answer_number;
 use layout::clipped;
-use layout::receiving;
-use layout::sending;
+use offering::Sender;
 use receiver::Read;
 use receiver::Receiver;
 use sender::Made;
-use sender::Sender;
 use sender::blocks::make_block;
 ghost use mathlib.Core.Path.{_≡_};
 ghost use Rattle.aes18.specs.SenderCalls as sends;
@@ -20,17 +18,17 @@ const NO_ROOM: u32 = 255;
 // A sender's record, for the circuits of a list.
 #[no_mangle]
 pub extern "C" fn aes18_sender_list(record: &mut [u8], list: &[u8]) -> u32
-    ensures { λ r. ⌜ (r ≡ sends.listNumber (now («record» .entry)) (now (list .entry)))
+    ensures { λ r. ⌜ (r ≡ sends.listAnswered (now («record» .entry)) (now (list .entry)))
         × (now («record» .exit) ≡ sends.listRecord (now («record» .entry)) (now (list .entry))) ⌝ }
 {
-    if record.len() < sending::LENGTH {
+    if record.len() < sender_layout::LENGTH {
         return NO_ROOM;
     }
     let listed = Sender::list(list);
     let answer = listed.answer;
     let sender = listed.sender;
-    sending::put_sender(record, sender);
-    answers::answer_number(answer)
+    sender_layout::put_sender(record, sender);
+    answer_number(answer)
 }
 
 // A message is offered at a circuit.
@@ -43,24 +41,24 @@ pub extern "C" fn aes18_sender_offer(
     repetition: u64,
     message: &[u8],
 ) -> u32
-    ensures { λ r. ⌜ (r ≡ sends.offerNumber (now («record» .entry)) (now (store .entry)) circuit priority repetition (now (message .entry)))
+    ensures { λ r. ⌜ (r ≡ sends.offerAnswered (now («record» .entry)) (now (store .entry)) circuit priority repetition (now (message .entry)))
         × (now («record» .exit) ≡ sends.offerRecord (now («record» .entry)) (now (store .entry)) circuit priority repetition (now (message .entry)))
         × (now (store .exit) ≡ sends.offerStore (now («record» .entry)) (now (store .entry)) circuit priority repetition (now (message .entry))) ⌝ }
 {
-    if record.len() < sending::LENGTH {
+    if record.len() < sender_layout::LENGTH {
         return NO_ROOM;
     }
-    let sender = sending::sender_in(record);
+    let sender = sender_layout::sender_in(record);
     let p = clipped(priority);
     let r = clipped(repetition);
     let offered = sender.offer(store, circuit as usize, p, r, message);
     let answer = offered.answer;
-    let number = answers::answer_number(answer);
+    let number = answer_number(answer);
     if number != 0 {
         return number;
     }
     let after = offered.sender;
-    sending::put_sender(record, after);
+    sender_layout::put_sender(record, after);
     0
 }
 
@@ -78,18 +76,18 @@ pub extern "C" fn aes18_sender_block(
     block: &mut [u8],
     answer: &mut [u8],
 ) -> u32
-    ensures { λ r. ⌜ (r ≡ sends.blockNumber (now («record» .entry)) (now (store .entry)) n u (systemAsked system enable code (now (info .entry))) (now (block .entry)) (now (answer .entry)))
+    ensures { λ r. ⌜ (r ≡ sends.blockAnswered (now («record» .entry)) (now (store .entry)) n u (systemAsked system enable code (now (info .entry))) (now (block .entry)) (now (answer .entry)))
         × (now («record» .exit) ≡ sends.blockRecord (now («record» .entry)) (now (store .entry)) n u (systemAsked system enable code (now (info .entry))) (now (block .entry)) (now (answer .entry)))
         × (now (block .exit) ≡ sends.blockWritten (now («record» .entry)) (now (store .entry)) n u (systemAsked system enable code (now (info .entry))) (now (block .entry)) (now (answer .entry)))
         × (now (answer .exit) ≡ sends.blockAnswer (now («record» .entry)) (now (store .entry)) n u (systemAsked system enable code (now (info .entry))) (now (block .entry)) (now (answer .entry))) ⌝ }
 {
-    if record.len() < sending::LENGTH {
+    if record.len() < sender_layout::LENGTH {
         return NO_ROOM;
     }
-    if answer.len() < answers::BLOCK {
+    if answer.len() < sender_layout::ANSWER {
         return NO_ROOM;
     }
-    let sender = sending::sender_in(record);
+    let sender = sender_layout::sender_in(record);
     let e = clipped(enable);
     let c = clipped(code);
     let making = make_block(
@@ -107,8 +105,8 @@ pub extern "C" fn aes18_sender_block(
     let after = making.sender;
     match made {
         Made::Block { placed, used } => {
-            sending::put_sender(record, after);
-            answers::put_block_answer(answer, placed, used);
+            sender_layout::put_sender(record, after);
+            sender_layout::put_block_answer(answer, placed, used);
             0
         }
         Made::Refused(number) => number as u32,
@@ -118,17 +116,17 @@ pub extern "C" fn aes18_sender_block(
 // A receiver's record, for the circuits of a list.
 #[no_mangle]
 pub extern "C" fn aes18_receiver_list(record: &mut [u8], list: &[u8]) -> u32
-    ensures { λ r. ⌜ (r ≡ receives.listNumber (now («record» .entry)) (now (list .entry)))
+    ensures { λ r. ⌜ (r ≡ receives.listAnswered (now («record» .entry)) (now (list .entry)))
         × (now («record» .exit) ≡ receives.listRecord (now («record» .entry)) (now (list .entry))) ⌝ }
 {
-    if record.len() < receiving::LENGTH {
+    if record.len() < receiver_layout::LENGTH {
         return NO_ROOM;
     }
     let listed = Receiver::list(list);
     let answer = listed.answer;
     let receiver = listed.receiver;
-    receiving::put_receiver(record, receiver);
-    answers::answer_number(answer)
+    receiver_layout::put_receiver(record, receiver);
+    answer_number(answer)
 }
 
 // The bits from number `from` up to `to` are read until the first notice.
@@ -141,28 +139,28 @@ pub extern "C" fn aes18_receiver_read(
     to: u64,
     answer: &mut [u8],
 ) -> u32
-    ensures { λ r. ⌜ (r ≡ receives.readNumber (now («record» .entry)) (now (store .entry)) (now (bits .entry)) from to (now (answer .entry)))
+    ensures { λ r. ⌜ (r ≡ receives.readAnswered (now («record» .entry)) (now (store .entry)) (now (bits .entry)) from to (now (answer .entry)))
         × (now («record» .exit) ≡ receives.readRecord (now («record» .entry)) (now (store .entry)) (now (bits .entry)) from to (now (answer .entry)))
         × (now (store .exit) ≡ receives.readStore (now («record» .entry)) (now (store .entry)) (now (bits .entry)) from to (now (answer .entry)))
         × (now (answer .exit) ≡ receives.readAnswer (now («record» .entry)) (now (store .entry)) (now (bits .entry)) from to (now (answer .entry))) ⌝ }
 {
-    if record.len() < receiving::LENGTH {
+    if record.len() < receiver_layout::LENGTH {
         return NO_ROOM;
     }
-    if answer.len() < answers::READ {
+    if answer.len() < receiver_layout::ANSWER {
         return NO_ROOM;
     }
-    if !receiving::is_receiver(record) {
+    if !receiver_layout::is_receiver(record) {
         return 14;
     }
-    let receiver = receiving::receiver_in(record);
+    let receiver = receiver_layout::receiver_in(record);
     let reading = receiver.read(store, bits, from as usize, to as usize);
     let read = reading.read;
     let after = reading.receiver;
     match read {
         Read::Told(notice) => {
-            receiving::put_receiver(record, after);
-            answers::put_read_answer(answer, notice, reading.bits);
+            receiver_layout::put_receiver(record, after);
+            receiver_layout::answers::put_read_answer(answer, notice, reading.bits);
             0
         }
         Read::Refused(number) => number as u32,

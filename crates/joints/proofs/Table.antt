@@ -10,9 +10,9 @@ use Rattle.packet.specs.Messages.{header, packets, linkOf}
 use Rattle.packet.specs.Packets.{control}
 use Rattle.framing.specs.Machine.{empty, fresh, oneRead, zeroRead, step, run, closes}
 use Rattle.framing.specs.Closings.{closings}
-use Rattle.receiver.specs.Packets.{index}
-use Rattle.receiver.specs.Packets.{control as controlOf}
-use Rattle.receiver.specs.Notices.{lossOf, isCopy, fateOf}
+use Rattle.parsing.specs.Packets.{index}
+use Rattle.parsing.specs.Packets.{control as controlOf}
+use Rattle.notices.specs.Fates.{lossOf, isCopy, fateOf}
 use Rattle.joints.specs.Joints.{Joints}
 
 pub joints : Joints

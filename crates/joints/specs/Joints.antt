@@ -14,9 +14,9 @@ use Rattle.packet.specs.Messages.{packets, linkOf}
 use Rattle.packet.specs.Packets.{control}
 use Rattle.framing.specs.Machine.{empty, fresh, run}
 use Rattle.framing.specs.Closings.{closings}
-use Rattle.receiver.specs.declared.Slot.{Slot}
-use Rattle.receiver.specs.declared.Fate.the-variants.{Copy}
-use Rattle.receiver.specs.Notices.{lossOf, fateOf}
+use Rattle.notices.specs.declared.Slot.{Slot}
+use Rattle.notices.specs.declared.Fate.the-variants.{Copy}
+use Rattle.notices.specs.Fates.{lossOf, fateOf}
 
 -- 011111101111110: two flags that share their 0
 abbrev pub sharedZero : List Bool

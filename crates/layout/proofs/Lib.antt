@@ -1,6 +1,3 @@
--- The laws of `layout`: what its functions' proofs cite; then that a record that was packed is unpacked again, and bytes that were unpacked are packed again.
+-- The laws of `layout`: what is written one behind the other; bytes, numbers and circuits, packed and unpacked.
 pub mod Copies
 pub mod Parts
-pub mod SenderRoundTrip
-pub mod ReceiverRoundTrip
-pub mod Example

@@ -15,16 +15,17 @@ lowBytes (suc k) n = n % 256 ∷ lowBytes k (n / 256)
 unfoldable pub byteAt : List ℕ → ℕ → ℕ
 byteAt bytes at = getD bytes at 0
 
--- the number in two bytes, lowest first
-unfoldable pub wordAt : List ℕ → ℕ → ℕ
-wordAt bytes at = byteAt bytes at + 256 * byteAt bytes (at + 1)
+-- the number in k bytes, lowest first
+unfoldable pub numberAt : ℕ → List ℕ → ℕ → ℕ
+numberAt zero bytes at = 0
+numberAt (suc k) bytes at = byteAt bytes at + 256 * numberAt k bytes (suc at)
 
 -- a circuit is laid out as in a circuit list: "three bytes each: address, 1 or 0 for extension present, extension" (document 01)
 unfoldable pub circuitBytes : Circuit → List ℕ
 circuitBytes c = c .address ∷ c .extended ∷ c .extension ∷ []
 
-unfoldable pub circuitAt : List ℕ → ℕ → Circuit
-circuitAt bytes at = record { address = byteAt bytes at; extended = byteAt bytes (at + 1); extension = byteAt bytes (at + 2) }
+unfoldable pub circuitFrom : List ℕ → ℕ → Circuit
+circuitFrom bytes at = record { address = byteAt bytes at; extended = byteAt bytes (at + 1); extension = byteAt bytes (at + 2) }
 
 -- the circuits of a record, 13 bytes: how many, and four places
 unfoldable pub circuitsBytes : Circuits → List ℕ
@@ -36,5 +37,5 @@ unfoldable pub circuitsIn : List ℕ → Circuits
 circuitsIn bytes =
     record {
       count = byteAt bytes 0;
-      list = circuitAt bytes 1 ∷ circuitAt bytes 4 ∷ circuitAt bytes 7 ∷ circuitAt bytes 10 ∷ [];
+      list = circuitFrom bytes 1 ∷ circuitFrom bytes 4 ∷ circuitFrom bytes 7 ∷ circuitFrom bytes 10 ∷ [];
     }

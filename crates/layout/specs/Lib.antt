@@ -1,6 +1,3 @@
--- The definitions of `layout`: how records and answers are laid out in bytes.
+-- The definitions of `layout`: what both ends' records share in bytes.
 pub mod Layout
-pub mod SenderBytes
-pub mod ReceiverBytes
 pub mod Fits
-pub mod Answers

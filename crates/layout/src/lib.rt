@@ -1,18 +1,17 @@
-// Records and answers laid out in bytes (specs/ has the layouts). Here is what both ends share: numbers of several bytes and the circuits of a record.
-
-pub mod answers;
-pub mod receiving;
-pub mod sending;
+// What both ends' records and answers share in bytes: numbers of several bytes and the circuits of a record.
 
 ghost use mathlib.Core.Path.{_≡_};
 ghost use Prim.Native.Nat.{_+_, _%_, _≤_, min};
 ghost use lib.ListN.{length};
-ghost use Rattle.layout.specs.Layout.{wordAt, circuitAt, circuitsBytes, circuitsIn};
+ghost use lib.Seq.{sets};
+ghost use Rattle.packet.specs.Answers.{answerNumber};
+ghost use Rattle.layout.specs.Layout.{lowBytes, numberAt, circuitFrom, circuitsBytes, circuitsIn};
+use packet::Answer;
 use packet::Circuit;
 use packet::Circuits;
 
 // The lowest byte of a number.
-fn low_byte(n: usize) -> u8
+pub fn low_byte(n: usize) -> u8
     ensures { λ r. ⌜ r ≡ n % 256 ⌝ }
 {
     (n % 256) as u8
@@ -26,17 +25,17 @@ fn wide(b: u8) -> u16
 }
 
 // The number in two bytes, lowest first.
-fn word_at(bytes: &[u8], at: usize) -> u16
+pub fn word_at(bytes: &[u8], at: usize) -> u16
     requires { ⌜ at + 2 ≤ length (now bytes) ⌝ }
-    ensures { λ r. ⌜ r ≡ wordAt (now (bytes .entry)) at ⌝ }
+    ensures { λ r. ⌜ r ≡ numberAt 2 (now (bytes .entry)) at ⌝ }
 {
     wide(bytes[at]) + 256 * wide(bytes[at + 1])
 }
 
 // The circuit in three bytes.
-fn circuit_at(bytes: &[u8], at: usize) -> Circuit
+fn circuit_from(bytes: &[u8], at: usize) -> Circuit
     requires { ⌜ at + 3 ≤ length (now bytes) ⌝ }
-    ensures { λ r. ⌜ r ≡ circuitAt (now (bytes .entry)) at ⌝ }
+    ensures { λ r. ⌜ r ≡ circuitFrom (now (bytes .entry)) at ⌝ }
 {
     Circuit {
         address: bytes[at],
@@ -46,14 +45,14 @@ fn circuit_at(bytes: &[u8], at: usize) -> Circuit
 }
 
 // The circuits that a record begins with.
-fn circuits_in(bytes: &[u8]) -> Circuits
+pub fn circuits_in(bytes: &[u8]) -> Circuits
     requires { ⌜ 13 ≤ length (now bytes) ⌝ }
     ensures { λ r. ⌜ r ≡ circuitsIn (now (bytes .entry)) ⌝ }
 {
-    let first = circuit_at(bytes, 1);
-    let second = circuit_at(bytes, 4);
-    let third = circuit_at(bytes, 7);
-    let fourth = circuit_at(bytes, 10);
+    let first = circuit_from(bytes, 1);
+    let second = circuit_from(bytes, 4);
+    let third = circuit_from(bytes, 7);
+    let fourth = circuit_from(bytes, 10);
     Circuits {
         count: bytes[0],
         list: [first, second, third, fourth],
@@ -61,7 +60,7 @@ fn circuits_in(bytes: &[u8]) -> Circuits
 }
 
 // The bytes of a record's circuits.
-fn circuits_bytes(circuits: Circuits) -> [u8; 13]
+pub fn circuits_bytes(circuits: Circuits) -> [u8; 13]
     ensures { λ r. ⌜ r ≡ circuitsBytes circuits ⌝ }
 {
     let list = circuits.list;
@@ -94,4 +93,28 @@ pub fn clipped(n: u64) -> u8
         return 255;
     }
     n as u8
+}
+
+// A number goes to `width` bytes from byte `at` on, lowest first.
+pub fn put_number(bytes: &mut [u8], at: usize, width: usize, n: usize)
+    requires { ⌜ at + width ≤ length (now bytes) ⌝ }
+    ensures { λ r. ⌜ now (bytes .exit) ≡ sets (now (bytes .entry)) at (lowBytes width n) ⌝ }
+{
+    let mut left = n;
+    let mut k = 0;
+    while k < width {
+        bytes[at + k] = low_byte(left);
+        left /= 256;
+        k += 1;
+    }
+}
+
+// The number of an answer.
+pub fn answer_number(answer: Answer) -> u32
+    ensures { λ r. ⌜ r ≡ answerNumber answer ⌝ }
+{
+    match answer {
+        Answer::Accepted => 0,
+        Answer::Refused(n) => n as u32,
+    }
 }

@@ -15,10 +15,11 @@ use Rattle.hdlc.specs.Frames.{flag}
 use Rattle.hdlc.specs.Bodies.{startsWith, holds, Body, void, judge}
 use Rattle.hdlc.proofs.NoSix.{NoSix}
 use Rattle.hdlc.proofs.Ending.{length-flag}
+use Rattle.packet.specs.Lists.{anyOf, allOf}
 use Rattle.framing.proofs.Void.{void-gives-nothing}
 use Rattle.framing.proofs.BodiesAhead.{bodiesBehind, bodiesFrom, bodies-from}
 use Rattle.framing.proofs.FlagsAhead.{ahead, ahead-one}
-use Rattle.link.specs.Demand3.{anyOf, allOf, Frame, frameLength, Bit, values, beginWith, isPassed, isFrame, noOtherPasses}
+use Rattle.link.specs.Demand3.{Frame, frameLength, Bit, values, beginWith, isPassed, isFrame, noOtherPasses}
 
 -- ---- frames at their places
 

@@ -1,7 +1,7 @@
 -- Demand 3 holds.
 use Prim.Native.Nat.{ℕ, _*_, _≤_, _<_}
 use native.Mathlib.Omega.{arith}
-use mathlib.Core.Bool.{Bool, true, false, cond}
+use mathlib.Core.Bool.{Bool, true, false}
 use mathlib.Core.List.{List, [], _∷_, _++_, map}
 use mathlib.Core.Path.{_≡_, refl, sym, ap, _∙_}
 use lib.ListN.{length, take, drop, replicate, length-take, length-drop, length-replicate}
@@ -9,22 +9,24 @@ use lib.Dec.{ltb}
 use borrow.Author.Tests.{ltb-true, ltb-false}
 use Rattle.packet.specs.declared.Circuit.{Circuit}
 use Rattle.packet.specs.Circuits.{circuitsOf, listing}
-use Rattle.packet.specs.Messages.{packets}
+use Rattle.packet.specs.Lists.{those, AllAre}
 use Rattle.packet.proofs.CircuitLists.{listRefusal-length}
 use Rattle.framing.specs.Machine.{fresh as freshFraming}
 use Rattle.framing.specs.Closings.{closings}
-use Rattle.receiver.specs.Record.{region, systemPlace, storeLength, fresh}
+use Rattle.packet.specs.Stores.{region}
+use Rattle.notices.specs.Stores.{systemPlace, storeLength}
+use Rattle.receiver.specs.Record.{fresh}
 use Rattle.receiver.specs.Reads.{bitsOfReads}
-use Rattle.receiver.proofs.SlotsInRange.{cond-either}
-use Rattle.link.specs.Demand3.{those, allFrom, Pass, Message, frames, result, cameWhole, comes, came, messagesThatCame, fromFirstToLast, lost, receiver, lossesAt, handedOver, notices, noOtherPasses, atMostSixLost, Given, circuitAt, Demand3, Frame, originals}
-use Rattle.link.proofs.Steps.{EachIs, given, toldByPackets, Laid, AllMade, packetsAt, Offer, messageOf, sentPackets, cameOf}
+use Rattle.packet.proofs.Choices.{cond-either}
+use Rattle.queues.proofs.IndexCounts.{sentPackets, numbered-offers}
+use Rattle.link.specs.Demand3.{Pass, messages, frames, result, cameWhole, comes, came, messagesThatCame, fromFirstToLast, lost, receiver, lossesAt, handedOver, notices, noOtherPasses, atMostSixLost, Given, circuitAt, Demand3, Frame, originals}
+use Rattle.link.proofs.Steps.{given, toldByPackets, Laid, AllMade, packetsAt, cameOf}
 use Rattle.link.proofs.ReadsHear.{losses-of-reads, handed-of-reads, short-store-reads-nothing}
 use Rattle.link.proofs.PassedAreWhole.{passed-are-whole}
 use Rattle.link.proofs.FramesMade.{list-right, frames-made}
 use Rattle.link.proofs.FramesLaid.{frames-laid, frames-ascending}
 use Rattle.link.proofs.OneCircuit.{losses-of-circuit, handed-of-circuit}
 use Rattle.link.proofs.SentAt.{SentAt, sent-at}
-use Rattle.link.proofs.Numbering.{numbered-offers}
 use Rattle.link.proofs.Losses.{losses-thinned, fromFirstToLast-unplaced}
 use Rattle.link.proofs.Reassembly.{handed-thinned}
 
@@ -32,25 +34,11 @@ use Rattle.link.proofs.Reassembly.{handed-thinned}
 
 -- some of the frames that the sender made are frames that it made
 AllMade-those : (test : Frame → Bool) (fs : List Frame) → AllMade fs → AllMade (those test fs)
-unfolding EachIs those
+unfolding AllAre those
 AllMade-those test [] h = tt
 AllMade-those test (f ∷ fs) h =
     let later : AllMade (those test fs) = AllMade-those test fs (h .1) in
     cond-either (λ l. AllMade (l ++ those test fs)) (test f) _ _ (λ _. (h .0, later)) (λ _. later)
-
--- the texts of the messages that pass a test are those of the offers that do
-texts-of-offers : (test : Message → Bool) (os : List Offer)
-    → map (λ (m : Message). m .text) (those test (map messageOf os)) ≡ map (λ (o : Offer). o .text) (those (λ o. test (messageOf o)) os)
-unfolding those messageOf
-texts-of-offers test [] = refl
-texts-of-offers test (o ∷ os) = go (test (messageOf o)) (texts-of-offers test os)
-  where
-    go : (b : Bool)
-        → map (λ (m : Message). m .text) (those test (map messageOf os)) ≡ map (λ (o : Offer). o .text) (those (λ o. test (messageOf o)) os)
-        → map (λ (m : Message). m .text) (cond b (messageOf o ∷ []) [] ++ those test (map messageOf os))
-        ≡ map (λ (o : Offer). o .text) (cond b (o ∷ []) [] ++ those (λ o. test (messageOf o)) os)
-    go true later = ap (_∷_ (o .text)) later
-    go false later = later
 
 module _ (p : Pass) (g : Given p) (noOther : noOtherPasses (result p) (frames p) ≡ true) where
   -- the frames that came whole
@@ -97,11 +85,11 @@ module _ (p : Pass) (g : Given p) (noOther : noOtherPasses (result p) (frames p)
     k = circuitAt p n
 
     s : SentAt p k
-    s = sent-at p (g .senderListed) (g .callBytes) k
+    s = sent-at p (g .senderListed) k
 
     -- of all packets sent there, whether each came
     mask : List Bool
-    mask = cameOf (comes p k) (sentPackets k (s .offers))
+    mask = cameOf (comes p k) (sentPackets (messages p k))
 
     -- those of which no copy was placed stand behind the last that came, and do not count
     mask-came : fromFirstToLast mask ≡ fromFirstToLast (came p k)
@@ -119,7 +107,7 @@ module _ (p : Pass) (g : Given p) (noOther : noOtherPasses (result p) (frames p)
         losses-of-reads (p .receiverList) (p .receiverStore) (p .reads) n
         ∙ ap (λ ps. lossesAt n (toldByPackets (fresh (listing (p .receiverList))) (p .receiverStore) ps)) heard-are-whole
         ∙ losses-of-circuit (p .receiverList) (p .receiverStore) (g .receiverListed) n there whole whole-made
-        ∙ losses-thinned (comes p k) (sentPackets k (s .offers)) (packetsAt k whole) (numbered-offers k (s .offers) 0 (s .right)) (s .thinned) mask-six
+        ∙ losses-thinned (comes p k) (sentPackets (messages p k)) (packetsAt k whole) (numbered-offers (messages p k) k 0 (s .right)) (s .thinned) mask-six
         ∙ ap lost mask-came
 
     -- the receiver lists at most four circuits, so that the region lies in the store
@@ -130,17 +118,14 @@ module _ (p : Pass) (g : Given p) (noOther : noOtherPasses (result p) (frames p)
 
     -- the messages handed over are those of which every packet came
     messages-told : handedOver n (notices p) ≡ messagesThatCame p k
-    unfolding k mask circuitAt whole packets-of messagesThatCame messageOf
+    unfolding k mask circuitAt whole packets-of messagesThatCame
     messages-told =
         handed-of-reads (p .receiverList) (p .receiverStore) (p .reads) n
         ∙ ap (λ ps. handedOver n (toldByPackets (fresh (listing (p .receiverList))) (p .receiverStore) ps)) heard-are-whole
         ∙ ap (handedOver n) (long-store .same)
         ∙ handed-of-circuit (p .receiverList) (long-store .store) (g .receiverListed) n there whole whole-made
-        ∙ handed-thinned (comes p k) k (list-right (p .receiverList) (g .receiverListed) (g .receiverBytes) n) (s .offers) (s .right)
+        ∙ handed-thinned (comes p k) k (list-right (p .receiverList) (g .receiverListed) (g .receiverBytes) n) (messages p k) (s .right)
         (take region (drop (region * n) (long-store .store))) length-area (packetsAt k whole) (s .thinned) mask-six
-        ∙ sym
-        (ap (λ ms. map (λ (m : Message). m .text) (those (λ (m : Message). allFrom (comes p k) (m .first) (packets (length (m .text)))) ms)) (s .sent)
-        ∙ texts-of-offers (λ (m : Message). allFrom (comes p k) (m .first) (packets (length (m .text)))) (s .offers))
 
 pub demand-3 : Demand3
 unfolding Demand3 k

@@ -10,15 +10,17 @@ use lib.Dec.{eqb}
 use borrow.Author.Tests.{eq-eqb}
 use Rattle.bits.proofs.Tests.{and-left, and-right, and-both}
 use Rattle.packet.specs.declared.Circuit.{Circuit}
+use Rattle.packet.specs.Lists.{anyOf, allOf, those, AllAre}
 use Rattle.queues.specs.Queues.{Copy}
 use Rattle.queues.specs.Sent.{placedAt, framesOf}
-use Rattle.receiver.proofs.SlotsInRange.{cond-either}
-use Rattle.link.specs.Demand3.{anyOf, allOf, those, kept, Pass, joinedBits, blocks, Frame, frameLength, frames, keptBits, resulting, result, together, cameWhole, isCopyOf, comes, eachOnce, came, fromFirst, upToLast, fromFirstToLast, lost, atMostSixLost}
-use Rattle.link.proofs.ResultingBits.{begins-kept, row-together}
+use Rattle.packet.proofs.Choices.{cond-either}
+use Rattle.link.specs.Demand3.{Piece, kept, replaced, originals, Pass, joinedBits, blocks, Frame, frameLength, frames, keptBits, resulting, result, together, cameWhole, isCopyOf, comes, eachOnce, came, fromFirst, upToLast, fromFirstToLast, lost, atMostSixLost}
+use Rattle.link.specs.Channels.{Clean}
+use Rattle.link.proofs.ResultingBits.{keptBits-append, begins-kept, row-together}
 use Rattle.link.proofs.SamePackets.{frameLength-pos}
 use Rattle.link.proofs.CopiesThinned.{Arrival, copiesIn, comesIn}
 use Rattle.link.proofs.SentAt.{arrives-blocks}
-use Rattle.link.proofs.Steps.{EachIs, LaidAt, Laid}
+use Rattle.link.proofs.Steps.{LaidAt, Laid}
 use Rattle.link.proofs.Gaps.{gaps, gaps-worded}
 
 -- ---- bits that are kept lie together
@@ -44,7 +46,7 @@ cameWhole-kept bits f h = rw zero-add at (together-kept (f .from) (frameLength f
 -- a test that every frame there passes tells nothing beside another
 module _ (bits : List Bool) (test : Frame → Bool) (pass : (f : Frame) → LaidAt bits f → test f ≡ true) where
   anyOf-laid : (other : Frame → Bool) (fs : List Frame) → Laid bits fs → anyOf (λ f. other f && test f) fs ≡ anyOf other fs
-  unfolding anyOf EachIs
+  unfolding anyOf AllAre
   anyOf-laid other [] h = refl
   anyOf-laid other (f ∷ fs) h = rw (pass f (h .0), and-true, anyOf-laid other fs (h .1))
 
@@ -111,11 +113,18 @@ comesIn-all (a ∷ l) e =
 
 -- ---- the clean channel
 
-module _ (p : Pass) (clean : p .pieces ≡ kept (joinedBits p) ∷ []) where
-  -- all bits are kept
+-- all bits are kept
+resulting-clean : (pieces : List Piece) (n : ℕ) → Clean pieces → resulting n pieces ≡ keptBits n (originals pieces)
+unfolding Clean resulting originals keptBits
+resulting-clean [] n clean = refl
+resulting-clean (kept bits ∷ pieces) n clean =
+    rw (resulting-clean pieces (n + length bits) clean) (sym (keptBits-append bits (originals pieces) n))
+resulting-clean (replaced old new ∷ pieces) n clean = absurd clean
+
+module _ (p : Pass) (clean : Clean (p .pieces)) (joined : originals (p .pieces) ≡ joinedBits p) where
   result-clean : result p ≡ keptBits 0 (joinedBits p)
-  unfolding result resulting
-  result-clean = ap (resulting 0) clean ∙ append-nil (keptBits 0 (joinedBits p))
+  unfolding result
+  result-clean = resulting-clean (p .pieces) 0 clean ∙ ap (keptBits 0) joined
 
   -- every frame comes whole
   cameWhole-clean : (f : Frame) → LaidAt (joinedBits p) f → cameWhole (result p) f ≡ true

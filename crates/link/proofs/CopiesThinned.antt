@@ -8,9 +8,10 @@ use mathlib.Core.Path.{_≡_, refl, ap, _∙_}
 use lib.ListN.{replicate}
 use lib.Dec.{eqb}
 use borrow.Author.Tests.{eq-eqb, ne-eqb}
+use Rattle.packet.specs.Lists.{anyOf, those}
 use Rattle.queues.specs.Queues.{Copy}
 use Rattle.queues.specs.Sent.{Sent, copiesOf, Numbered}
-use Rattle.link.specs.Demand3.{anyOf, those, eachOnce}
+use Rattle.link.specs.Demand3.{eachOnce}
 use Rattle.link.proofs.Steps.{ThinnedBy, Thinned, cameOf}
 
 -- a copy placed, and whether its frame came whole

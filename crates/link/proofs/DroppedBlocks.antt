@@ -3,10 +3,9 @@
 use Prim.Native.Nat.{ℕ, zero, suc, _+_, _-_, _≤_}
 use native.Mathlib.Numerals.{add-eight}
 use native.Mathlib.Omega.{arith}
-use mathlib.Core.Bool.{Bool, true, false, cond, _||_, or-true, or-assoc, true≢false}
+use mathlib.Core.Bool.{Bool, true, false, _||_, or-true, or-assoc, true≢false}
 use mathlib.Core.List.{List, [], _∷_, _++_, append-assoc, append-nil, append-cancel-left, head-eq-of-cons-eq, tail-eq-of-cons-eq, cons≢nil}
 use mathlib.Core.Logic.{_⊎_, inl, inr, ⊎-elim}
-use mathlib.Core.Option.{none, some}
 use mathlib.Core.Path.{_≡_, refl, sym, ap, _∙_}
 use lib.ListN.{length, replicate, length-append}
 use borrow.Author.Tests.{eq-eqb}
@@ -17,12 +16,14 @@ use Rattle.hdlc.specs.Bodies.{startsWith, holds, void, passing, judgeBits, judg
 use Rattle.hdlc.proofs.NoSix.{NoSix, NoSix-tail}
 use Rattle.hdlc.proofs.Stuffing.{NoSix-stuff}
 use Rattle.hdlc.proofs.Ending.{length-flag}
-use Rattle.sender.specs.Blocks.{opening}
-use Rattle.queues.specs.Queues.{Placed, placedBits, framesBits}
-use Rattle.queues.specs.Calls.{TakenBlock, usedIn, bitsOfBlock}
-use Rattle.link.specs.Demand3.{anyOf, Frame, frameLength, systemFrames, placedFrames, framesIn, framesInBlocks}
+use Rattle.packet.specs.Lists.{anyOf}
+use Rattle.sender.specs.Blocks.{framesBits, flaggedFrames, blockOf}
+use Rattle.queues.specs.Effects.{TakenBlock, packetsTaken, bitsOfBlock}
+use Rattle.link.specs.Demand3.{Frame, frameLength, InBlock, packetsIn, framesFrom, framesInBlocks}
 use Rattle.link.specs.Demand3.{Bit, keptBits, resulting, values, isPassed, noOtherPasses}
 use Rattle.link.specs.Channels.{droppedPieces}
+use Rattle.link.proofs.Steps.{alone}
+use Rattle.link.proofs.FramesLaid.{alone-packetsIn}
 use Rattle.link.proofs.ResultingBits.{begins-kept}
 use Rattle.link.proofs.BodiesOfBlocks.{isAt, OwnAt, Own, flag-bits, own-passes}
 
@@ -157,13 +158,13 @@ unfolding anyOf
 anyOf-append test [] gs = refl
 anyOf-append test (f ∷ fs) gs = rw (anyOf-append test fs gs) (sym (or-assoc (test f) (anyOf test fs) (anyOf test gs)))
 
-joined-behind : (a b c d e : List Bool) → a ++ b ++ c ++ d ++ e ≡ a ++ (b ++ (c ++ (d ++ e)))
-joined-behind a b c d e = simp append-assoc
+joined-behind : (a b c d : List Bool) → a ++ b ++ c ++ d ≡ a ++ (b ++ (c ++ d))
+joined-behind a b c d = simp append-assoc
 
 -- a block begins with a flag, and so do blocks of which some are dropped, unless all are
 follows-block : (b : TakenBlock) (n : ℕ) (bits : List Bit) → Follows (values (keptBits n (bitsOfBlock b) ++ bits))
-unfolding Follows bitsOfBlock usedIn opening
-follows-block b n bits = inr (_, values-kept (bitsOfBlock b) n bits ∙ joined-behind flag _ (framesBits (b .frames)) _ (values bits))
+unfolding Follows bitsOfBlock blockOf flaggedFrames
+follows-block b n bits = inr (_, values-kept (bitsOfBlock b) n bits ∙ joined-behind flag (framesBits (b .before ++ packetsTaken (b .frames))) _ (values bits))
 
 follows-dropped : (bs : List TakenBlock) (keep : List Bool) (n : ℕ) → Follows (values (resulting n (droppedPieces keep bs)))
 unfolding Follows values resulting droppedPieces
@@ -241,16 +242,16 @@ module _ (fs : List Frame) where
           let same : x ≡ y = same-body x y (z ++ values bits) r h (plain-stuffed y calm) (sym joined ∙ e) in
           rw same (has (isAt (keptBits (f .from) (flag ++ (y ++ (flag ++ z))) ++ bits) (length y + 16)) (own-place f z bits))
 
-  own-frames : (qs : List Placed) (n : ℕ) (l : List Bool) (bits : List Bit) → Has (placedFrames n qs)
-      → ((m : ℕ) → Own fs (keptBits m (flag ++ l) ++ bits)) → Own fs (keptBits n (flag ++ (framesBits qs ++ l)) ++ bits)
-  unfolding placedFrames framesBits placedBits
+  own-frames : (xs : List InBlock) (n : ℕ) (l : List Bool) (bits : List Bit) → Has (framesFrom n xs)
+      → ((m : ℕ) → Own fs (keptBits m (flag ++ l) ++ bits)) → Own fs (keptBits n (flag ++ (framesBits (alone xs) ++ l)) ++ bits)
+  unfolding framesFrom framesBits
   own-frames [] n l bits has own = own n
-  own-frames (q ∷ qs) n l bits has own =
-      let f : Frame = record { from = n; packet = q .copy .packet; whose = some q } in
-      let e : placedBits q ++ framesBits qs ++ l ≡ frame (f .packet) ++ (flag ++ (framesBits qs ++ l)) = simp append-assoc in
+  own-frames (x ∷ xs) n l bits has own =
+      let f : Frame = record { from = n; packet = x .packet; whose = x .whose } in
+      let e : (frame (x .packet) ++ flag) ++ framesBits (alone xs) ++ l ≡ frame (x .packet) ++ (flag ++ (framesBits (alone xs) ++ l)) = simp append-assoc in
       rw e
-      (own-frame f (framesBits qs ++ l) bits (has-left (f ∷ []) _ has)
-      (own-frames qs (n + length (placedBits q)) l bits (has-right (f ∷ []) _ has) own))
+      (own-frame f (framesBits (alone xs) ++ l) bits (has-left (f ∷ []) _ has)
+      (own-frames xs (n + length (frame (x .packet) ++ flag)) l bits (has-right (f ∷ []) _ has) own))
 
   -- ones, and the flag before them
   own-run : (k n : ℕ) (bits : List Bit) → Own fs bits → Own fs (keptBits n (replicate k true) ++ bits)
@@ -263,46 +264,28 @@ module _ (fs : List Frame) where
       own-flag (replicate k true) n bits (λ x r e h pass. absurd (no-body-of-ones k (values bits) x r follows e h pass))
       (λ x r e h. no-shared-flag k (values bits) x r follows e h) (own-run k (n + 8) bits own)
 
-  -- a block: what is used of it, and the ones behind that
-  own-used : (wanted : Bool) (p : List ℕ) (qs : List Placed) (n : ℕ) (l : List Bool) (bits : List Bit)
-      → Has (
-      cond wanted (record { from = n; packet = p; whose = none } ∷ []) []
-      ++ placedFrames (n + length (flag ++ cond wanted (frame p ++ flag) []) - 8) qs
-      )
-      → ((m : ℕ) → Own fs (keptBits m (flag ++ l) ++ bits))
-      → Own fs (keptBits n (flag ++ cond wanted (frame p ++ flag) [] ++ framesBits qs ++ l) ++ bits)
-  own-used true p qs n l bits has own =
-      let f : Frame = record { from = n; packet = p; whose = none } in
-      let e : flag ++ (frame p ++ flag) ++ framesBits qs ++ l ≡ flag ++ (frame p ++ (flag ++ (framesBits qs ++ l))) = simp append-assoc in
-      let m : n + length (flag ++ (frame p ++ flag)) - 8 ≡ n + length (frame p ++ flag) =
-      omega (arith, length-append flag (frame p ++ flag), length-flag)
-      in
-      let placed : Has (placedFrames (n + length (flag ++ (frame p ++ flag)) - 8) qs) = has-right (f ∷ []) _ has in
-      rw e
-      (own-frame f (framesBits qs ++ l) bits (has-left (f ∷ []) _ has) (own-frames qs (n + length (frame p ++ flag)) l bits (rw m at placed) own))
-  own-used false p qs n l bits has own =
-      let e : flag ++ [] ++ framesBits qs ++ l ≡ flag ++ (framesBits qs ++ l) = simp (append-nil, append-assoc) in
-      let m : n + length (flag ++ []) - 8 ≡ n = omega (arith, length-append flag [], length-flag) in
-      rw e (own-frames qs n l bits (rw m at has) own)
-
-  own-block : (b : TakenBlock) (n : ℕ) (bits : List Bit) → Has (framesIn n b) → Follows (values bits) → Own fs bits
+  -- a block: its frames, and the ones behind them
+  own-block : (b : TakenBlock) (n : ℕ) (bits : List Bit) → Has (framesFrom n (packetsIn b)) → Follows (values bits) → Own fs bits
       → Own fs (keptBits n (bitsOfBlock b) ++ bits)
-  unfolding framesIn systemFrames bitsOfBlock usedIn opening
+  unfolding bitsOfBlock blockOf flaggedFrames
   own-block b n bits has follows own =
-      own-used (b .system .wanted) _ (b .frames) n (replicate (b .size - length (usedIn b)) true) bits has
-      (λ m. own-ones (b .size - length (usedIn b)) m bits follows own)
+      let ps : List (List ℕ) = b .before ++ packetsTaken (b .frames) in
+      let k : ℕ = b .size - length (flag ++ framesBits ps) in
+      let e : flag ++ framesBits ps ++ replicate k true ≡ flag ++ (framesBits (alone (packetsIn b)) ++ replicate k true) =
+      rw (alone-packetsIn b) (append-assoc flag (framesBits ps) (replicate k true)) in
+      rw e (own-frames (packetsIn b) n (replicate k true) bits has (λ m. own-ones k m bits follows own))
 
   -- blocks of which some are dropped
   own-dropped-from : (bs : List TakenBlock) (keep : List Bool) (n : ℕ) → Has (framesInBlocks n bs) → Own fs (resulting n (droppedPieces keep bs))
   unfolding framesInBlocks resulting droppedPieces Own
   own-dropped-from [] keep n has = tt
   own-dropped-from (b ∷ bs) [] n has =
-      own-block b n _ (has-left (framesIn n b) _ has) (follows-dropped bs [] (n + length (bitsOfBlock b)))
-      (own-dropped-from bs [] (n + length (bitsOfBlock b)) (has-right (framesIn n b) _ has))
+      own-block b n _ (has-left (framesFrom n (packetsIn b)) _ has) (follows-dropped bs [] (n + length (bitsOfBlock b)))
+      (own-dropped-from bs [] (n + length (bitsOfBlock b)) (has-right (framesFrom n (packetsIn b)) _ has))
   own-dropped-from (b ∷ bs) (true ∷ keep) n has =
-      own-block b n _ (has-left (framesIn n b) _ has) (follows-dropped bs keep (n + length (bitsOfBlock b)))
-      (own-dropped-from bs keep (n + length (bitsOfBlock b)) (has-right (framesIn n b) _ has))
-  own-dropped-from (b ∷ bs) (false ∷ keep) n has = own-dropped-from bs keep (n + length (bitsOfBlock b)) (has-right (framesIn n b) _ has)
+      own-block b n _ (has-left (framesFrom n (packetsIn b)) _ has) (follows-dropped bs keep (n + length (bitsOfBlock b)))
+      (own-dropped-from bs keep (n + length (bitsOfBlock b)) (has-right (framesFrom n (packetsIn b)) _ has))
+  own-dropped-from (b ∷ bs) (false ∷ keep) n has = own-dropped-from bs keep (n + length (bitsOfBlock b)) (has-right (framesFrom n (packetsIn b)) _ has)
 
 -- ---- the theorem
 

@@ -15,28 +15,36 @@ use Rattle.fcs.specs.Fcs.{poly, divided, fcsBit, fcsRun, preset, complement, fc
 use Rattle.hdlc.specs.Stuffing.{stuffFrom, stuff, unstuffFrom, unstuff, endOnes}
 use Rattle.hdlc.specs.Frames.{flag, withFcs, frame}
 use Rattle.hdlc.specs.Bodies.{startsWith, holds, flagsFrom, flags, bodiesAfter, betweenFlags, bodies, void, fcsRight, passing, packet, judgeBits, judge}
-use Rattle.packet.specs.Circuits.{circuitsOf, some-circuit, wrongLength, addressFF, wrongExtension, alike, twoAlike, circuitsRefusal, listRefusal, listed, noCircuit, recordOf, listing}
-use Rattle.packet.specs.Messages.{header, headed, segment, packets, linkOf}
+use Rattle.packet.specs.Circuits.{circuitsOf, wrongLength, addressFF, wrongExtension, alike, twoAlike, circuitsRefusal, listRefusal, listed, noCircuit, recordOf, listing, numberFrom}
+use Rattle.packet.specs.Messages.{longest, header, headed, segment, packets, linkOf}
 use Rattle.packet.specs.Packets.{control, extensionOf, packetOf, systemPacket}
+use Rattle.packet.specs.Lists.{anyOf, allOf, those, firstFrom, AllAre}
 use Rattle.framing.specs.Machine.{empty, oneRead, held, phaseAfter, keep, zeroRead, step, closes, whole, check}
 use Rattle.framing.specs.Machine.{fresh as freshFraming}
 use Rattle.framing.specs.Range.{inRange as framingInRange, kept as framingKept, allZero, phaseRight, inFives}
 use Rattle.framing.specs.Scanning.{ended, stopped, scan}
-use Rattle.sender.specs.Record.{messageAt, pending, freshSlot as freshSendSlot, slotAt as sendSlotAt, slotInRange as sendSlotInRange, slotsInRange as sendSlotsInRange, inRange as sendInRange, region as sendRegion, storeLength as sendStoreLength, fresh as freshSender}
-use Rattle.sender.specs.Offering.{offerRefusal, offeredSender, offeredStore, senderAfterOffer, storeAfterOffer}
+use Rattle.offering.specs.Record.{messageAt, pending, freshSlot as freshSendSlot, slotAt as sendSlotAt, slotInRange as sendSlotInRange, slotsInRange as sendSlotsInRange, inRange as sendInRange, storeLength as sendStoreLength, fresh as freshSender}
+use Rattle.offering.specs.Offering.{offerRefusal, offeredSender, offeredStore, senderAfterOffer, storeAfterOffer}
 use Rattle.picking.specs.Picking.{enabled, goingRound, orElse, firstWaiting, waitsAt, pickFrom, pick, advanced, served, copiesWaiting}
+use Rattle.writing.specs.PacketParts.{packetAt}
 use Rattle.writing.specs.NextFrame.{nextPacket, nextFrame}
-use Rattle.sender.specs.Blocks.{System, full, andThen, placing, fill, copiesIn, waiting, filled, enableBits, opening, blockFilled, blockRefusal, senderAfterBlock}
-use Rattle.queues.specs.Queues.{freshQueue, freshQueues, queueAt, copyOf, copiesFrom, messageCopies, offered, offerQueues, frontHas, firstQueue, pickQueueFrom, pickQueue, behindFirst, behind, serveQueues, placedBits, framesBits, takenNone, andTaken, takingFirst, taking, takeUpTo, copiesInQueues, takeFrames}
-use Rattle.queues.specs.Calls.{Call, offer, block, freshEnd, accepted, afterCall, queuesAfterAccepted, queuesAfterCall, blocksMade, usedIn, bitsOfBlock, taken, blocksTaken}
-use Rattle.queues.specs.Sent.{placedAt, framesOf}
+use Rattle.sender.specs.Blocks.{framesBits, flaggedFrames, blockOf, full, andThen, placing, fill, copiesIn, waiting, fillUp, System, systemPackets, enableBits, blockFilled, wrongSize, shortBuffer, wrongSystem, blockRefusal, senderAfterBlock}
+use Rattle.queues.specs.Queues.{freshQueue, freshQueues, queueAt, copyOf, copiesFrom, messageCopies, messageFor, offered, offerQueues, frontHas, firstQueue, pickQueueFrom, pickQueue, behindFirst, behind, serveQueues, Message, takenNone, andTaken, takingFirst, taking, takeUpTo, copiesInQueues, takeFrames}
+use Rattle.queues.specs.Effects.{takenFor, packetsTaken, bitsOfBlock, queuesAfterEffect, sentBy, takenBy, messagesSent, blocksTaken}
+use Rattle.queues.specs.Calls.{Call, offer, block, freshEnd, accepted, afterCall, effect, effectOf, effects, blocksMade}
+use Rattle.queues.specs.Sent.{messagesAt, placedAt, framesOf}
 use Rattle.queues.proofs.BlocksAreQueues.{blocks-are-queues}
-use Rattle.receiver.specs.Record.{region, systemPlace, storeLength, freshSlot, fresh, slotAt, open-message, slotInRange, slotsInRange, inRange}
-use Rattle.receiver.specs.Packets.{address, control as controlIn, link, extended, index, lead, segment as segmentIn, circuitIn, numberFrom, descriptor, code, information, enable, malformedSystem, malformed}
-use Rattle.receiver.specs.Notices.{twoBytes, headerLength, messageLength, wrongHeader, isCopy, lossOf, stillOpen, firstFate, lastFate, fateOf, messagePart, closedSlot, slotAfter, placeOf, storeAfter, withSlot, heardAt, heardBy, systemHeard, heard}
-use Rattle.receiver.specs.Reading.{withFraming, noticed, readBy, readScan, readRefusal, receiverAfterRead, storeAfterRead, bitsRead}
-use Rattle.receiver.specs.Reads.{ReadCall, acceptedRead, afterRead, bitsOfRead, bitsOfReads, told, toldByReads}
-use Rattle.link.specs.Demand3.{Piece, kept, replaced, Pass, Message, sentBy, sentByCalls, messages, allFrom, messagesThatCame, joinedBits, blocks, systemFrames, placedFrames, framesIn, framesInBlocks, frames, frameLength, originals, keptBits, newBit, resulting, result, values, isNumber, beginWith, together, cameWhole, isCopyOf, anyOf, allOf, comes, those, eachOnce, came, fromFirst, upToLast, fromFirstToLast, lost, receiver, lossAt, lossesAt, handedFrom, handedAt, handedOver, notices, isPassed, isFrame, noOtherPasses, atMostSixLost, Given, BytesIn, circuitAt, Claim, Demand3}
+use Rattle.packet.specs.Stores.{region}
+use Rattle.notices.specs.Stores.{systemPlace, storeLength, placeOf, storeAfterFate, storeAfterNotice}
+use Rattle.notices.specs.Slots.{freshSlot, slotAt, open-message, slotInRange, slotsInRange}
+use Rattle.receiver.specs.Record.{fresh, inRange}
+use Rattle.parsing.specs.Packets.{address, control as controlIn, link, extended, index, lead, segment as segmentIn, circuitIn, descriptor, code, information, enable, malformedSystem, malformed}
+use Rattle.parsing.specs.Headers.{twoBytes, headerLength, messageLength, wrongHeader, messagePart}
+use Rattle.notices.specs.Fates.{isCopy, lossOf, stillOpen, firstFate, lastFate, fateOf, closedSlot, slotAfter}
+use Rattle.notices.specs.Heard.{heardAt, heardBy, systemHeard, heard}
+use Rattle.receiver.specs.Reading.{withFraming, passed, noticed, readBy, readScan, readRefusal, receiverAfterRead, storeAfterRead, bitsRead, readOf, answerToRead}
+use Rattle.receiver.specs.Reads.{ReadCall, afterRead, bitsOfRead, bitsOfReads, reportOf, told, toldByReads}
+use Rattle.link.specs.Demand3.{Piece, kept, replaced, Pass, messages, allFrom, messagesThatCame, joinedBits, blocks, packetsIn, framesFrom, framesInBlocks, frames, frameLength, originals, keptBits, newBit, resulting, result, values, isNumber, beginWith, together, cameWhole, isCopyOf, comes, eachOnce, came, fromFirst, upToLast, fromFirstToLast, lost, receiver, lossAt, lossesAt, handedFrom, handedAt, handedOver, notices, isPassed, isFrame, noOtherPasses, atMostSixLost, Given, BytesIn, circuitAt, Claim, Demand3}
 use Rattle.link.proofs.ClaimHolds.{demand-3}
 
 -- ---- what the passes are made of
@@ -49,7 +57,7 @@ nothingWanted = record { wanted = false; enable = 0; code = 0; information = [] 
 
 -- the bits of the blocks that calls make
 bitsSent : List ℕ → List Call → List Bool
-bitsSent circuits calls = flatten (map bitsOfBlock (blocksTaken (freshEnd circuits (replicate 16384 0)) (freshQueues (circuitsOf circuits)) calls))
+bitsSent circuits calls = flatten (map bitsOfBlock (blocksTaken (freshQueues (circuitsOf circuits)) (effects (freshEnd circuits (replicate 16384 0)) calls)))
 
 -- the bits with the m behind the first n replaced
 torn : ℕ → ℕ → List Bool → List Bool → List Piece
@@ -153,26 +161,27 @@ unfolding list nothingWanted bitsSent torn readsOf twoCircuits tornCalls tornBit
     odd lowBits byteBits bitsOf bitValue numberOf fillBytes bytesOf xor poly divided fcsBit fcsRun preset complement fcsOf lowFirst
     stuffFrom stuff unstuffFrom unstuff endOnes flag withFcs frame
     startsWith holds flagsFrom flags bodiesAfter betweenFlags bodies void fcsRight passing packet judgeBits judge
-    circuitsOf some-circuit wrongLength addressFF wrongExtension alike twoAlike circuitsRefusal listRefusal listed noCircuit recordOf listing
-    header headed segment packets linkOf control extensionOf packetOf systemPacket
-    sendRegion sendStoreLength freshSendSlot freshSender sendSlotAt pending sendSlotInRange sendSlotsInRange sendInRange
+    circuitsOf anyOf wrongLength addressFF wrongExtension alike twoAlike circuitsRefusal listRefusal listed noCircuit recordOf listing
+    longest header headed segment packets linkOf control extensionOf packetOf systemPacket
+    sendStoreLength freshSendSlot freshSender sendSlotAt pending sendSlotInRange sendSlotsInRange sendInRange
     offerRefusal offeredSender offeredStore senderAfterOffer storeAfterOffer enabled goingRound orElse
-    waitsAt firstWaiting pickFrom pick messageAt nextPacket advanced served copiesWaiting full andThen nextFrame placing fill copiesIn waiting filled
-    enableBits opening blockFilled blockRefusal senderAfterBlock
-    freshQueue freshQueues queueAt copyOf copiesFrom messageCopies offered offerQueues
+    waitsAt firstWaiting pickFrom pick messageAt packetAt nextPacket advanced served copiesWaiting full andThen nextFrame placing fill copiesIn waiting fillUp
+    framesBits flaggedFrames blockOf systemPackets enableBits blockFilled wrongSize shortBuffer wrongSystem blockRefusal senderAfterBlock
+    freshQueue freshQueues queueAt copyOf copiesFrom messageCopies messageFor offered offerQueues
     frontHas firstQueue pickQueueFrom pickQueue behindFirst behind serveQueues
-    placedBits framesBits takenNone andTaken takingFirst taking takeUpTo copiesInQueues takeFrames
-    accepted afterCall queuesAfterAccepted queuesAfterCall blocksMade usedIn bitsOfBlock taken blocksTaken placedAt framesOf
+    takenNone andTaken takingFirst taking takeUpTo copiesInQueues takeFrames
+    takenFor packetsTaken bitsOfBlock queuesAfterEffect sentBy takenBy messagesSent blocksTaken
+    accepted afterCall effect effectOf effects blocksMade messagesAt placedAt framesOf
     empty oneRead held phaseAfter keep zeroRead step closes whole check freshFraming allZero phaseRight inFives framingKept framingInRange
     ended stopped scan
     region systemPlace storeLength freshSlot fresh slotAt open-message slotInRange slotsInRange inRange
-    address controlIn link extended index lead segmentIn circuitIn numberFrom descriptor code information enable malformedSystem malformed
-    twoBytes headerLength messageLength wrongHeader isCopy lossOf stillOpen firstFate lastFate fateOf messagePart closedSlot slotAfter placeOf storeAfter withSlot
-    heardAt heardBy systemHeard heard withFraming noticed readBy readScan readRefusal receiverAfterRead storeAfterRead bitsRead
-    acceptedRead afterRead bitsOfRead bitsOfReads told toldByReads flatten
-    blocks systemFrames placedFrames framesIn framesInBlocks frames frameLength keptBits newBit resulting result values
-    isNumber beginWith together cameWhole isCopyOf anyOf allOf comes those eachOnce came fromFirst upToLast fromFirstToLast lost
-    lossAt lossesAt handedFrom handedAt handedOver sentBy sentByCalls messages allFrom messagesThatCame isPassed isFrame noOtherPasses circuitAt
+    address controlIn link extended index lead segmentIn circuitIn firstFrom numberFrom descriptor code information enable malformedSystem malformed
+    twoBytes headerLength messageLength wrongHeader isCopy lossOf stillOpen firstFate lastFate fateOf messagePart closedSlot slotAfter placeOf storeAfterFate storeAfterNotice
+    heardAt heardBy systemHeard heard passed withFraming noticed readBy readScan readRefusal receiverAfterRead storeAfterRead bitsRead
+    afterRead bitsOfRead bitsOfReads readOf answerToRead reportOf told toldByReads flatten
+    blocks packetsIn framesFrom framesInBlocks frames frameLength keptBits newBit resulting result values
+    isNumber beginWith together cameWhole isCopyOf allOf comes those eachOnce came fromFirst upToLast fromFirstToLast lost
+    lossAt lossesAt handedFrom handedAt handedOver messages allFrom messagesThatCame isPassed isFrame noOtherPasses circuitAt
 computed =
     record {
       tornTaken = refl;
@@ -215,8 +224,8 @@ Bytes-tested (b ∷ bytes) e =
     (ltb-true b 256 (and-left (ltb b 256) (allOf (λ b. ltb b 256) bytes) e), Bytes-tested bytes (and-right (ltb b 256) (allOf (λ b. ltb b 256) bytes) e))
 
 given-torn : Given tornPass
-unfolding twoCircuits tornCalls tornPass tornBits nothingWanted allOf BytesIn joinedBits
-    circuitsOf some-circuit wrongLength addressFF wrongExtension alike twoAlike circuitsRefusal listRefusal
+unfolding twoCircuits tornCalls tornPass tornBits nothingWanted allOf AllAre BytesIn joinedBits
+    circuitsOf anyOf wrongLength addressFF wrongExtension alike twoAlike circuitsRefusal listRefusal
 given-torn =
     record {
       senderListed = refl;
@@ -224,15 +233,15 @@ given-torn =
       senderBytes = Bytes-tested _ refl;
       receiverBytes = Bytes-tested _ refl;
       callBytes =
-          let later : BytesIn (drop 4 tornCalls) = (Bytes-tested _ refl, (Bytes-tested _ refl, (Bytes-tested _ refl, (Bytes-tested _ refl, tt)))) in
+          let later : AllAre BytesIn (drop 4 tornCalls) = (Bytes-tested _ refl, (Bytes-tested _ refl, (Bytes-tested _ refl, (Bytes-tested _ refl, tt)))) in
           (Bytes-tested _ refl, (Bytes-tested _ refl, (Bytes-tested _ refl, (Bytes-tested _ refl, later))));
       inPieces = torn-joined 404 3 (true ∷ false ∷ true ∷ true ∷ []) twoCircuits tornCalls refl;
       takes = computed .tornTaken;
     }
 
 given-forged : Given forgedPass
-unfolding list forgedPass allOf BytesIn flatten blocksMade joinedBits originals
-    circuitsOf some-circuit wrongLength addressFF wrongExtension alike twoAlike circuitsRefusal listRefusal
+unfolding list forgedPass allOf AllAre BytesIn flatten blocksMade joinedBits originals
+    circuitsOf anyOf wrongLength addressFF wrongExtension alike twoAlike circuitsRefusal listRefusal
 given-forged =
     record {
       senderListed = refl;
@@ -245,8 +254,8 @@ given-forged =
     }
 
 given-seven : Given sevenPass
-unfolding list sevenPass sevenCalls sevenBits nothingWanted allOf BytesIn joinedBits
-    circuitsOf some-circuit wrongLength addressFF wrongExtension alike twoAlike circuitsRefusal listRefusal
+unfolding list sevenPass sevenCalls sevenBits nothingWanted allOf AllAre BytesIn joinedBits
+    circuitsOf anyOf wrongLength addressFF wrongExtension alike twoAlike circuitsRefusal listRefusal
 given-seven =
     record {
       senderListed = refl;

@@ -1,8 +1,8 @@
 -- What is in the frames that calls place: packets that the sender makes of messages at right circuits, and system packets.
-use Prim.Native.Nat.{ℕ, zero, suc, _+_, _-_, _≤_, _<_}
+use Prim.Native.Nat.{ℕ, zero, suc, _+_, _≤_, _<_}
 use native.Mathlib.Omega.{arith}
-use mathlib.Core.Bool.{Bool, true, false, cond}
-use mathlib.Core.List.{List, [], _∷_}
+use mathlib.Core.Bool.{true, false}
+use mathlib.Core.List.{List, [], _∷_, _++_, map}
 use mathlib.Core.Option.{none}
 use mathlib.Core.Path.{_≡_, refl}
 use lib.ListN.{length, getD, set, replicate, List·getD-map}
@@ -10,20 +10,24 @@ use lib.Dec.{ltb, eqb}
 use borrow.Author.Tests.{eqb-true, eqb-false, eq-eqb, ltb-false, not-false}
 use Rattle.bits.specs.Bits.{Bytes}
 use Rattle.bits.proofs.Tests.{or-left, or-right}
+use Rattle.hdlc.specs.Frames.{flag, frame}
 use Rattle.packet.specs.declared.Circuit.{Circuit}
-use Rattle.packet.specs.Circuits.{circuitsOf, some-circuit, addressFF, wrongExtension, circuitsRefusal, listRefusal, noCircuit}
-use Rattle.packet.specs.Messages.{packets}
+use Rattle.packet.specs.Circuits.{circuitsOf, addressFF, wrongExtension, circuitsRefusal, listRefusal, noCircuit}
+use Rattle.packet.specs.Messages.{longest, packets}
 use Rattle.packet.specs.Packets.{systemPacket}
+use Rattle.packet.specs.Lists.{anyOf, AllAre}
+use Rattle.packet.proofs.Choices.{cond-either}
 use Rattle.packet.proofs.CircuitLists.{circuitsRefusal-zero, listed-listing, listing-refusal}
-use Rattle.sender.specs.Offering.{offerRefusal}
-use Rattle.sender.specs.Blocks.{System, enableBits, opening, blockRefusal}
-use Rattle.queues.specs.Queues.{Copy, Queue, Queues, freshQueue, freshQueues, queueAt, copyOf, copiesFrom, messageCopies, offered, offerQueues, pickQueue, behindFirst, behind, serveQueues, Placed, placedBits, Taken, takenNone, andTaken, takeUpTo, copiesInQueues, takeFrames}
-use Rattle.queues.specs.Calls.{Call, offer, block, End, accepted, afterCall, queuesAfterAccepted, queuesAfterCall, TakenBlock, bitsOfBlock, taken, blocksTaken}
-use Rattle.offering.proofs.Offers.{OfferFacts, offerRefusal-zero}
+use Rattle.packet.proofs.Lists.{AllAre-append, AllAre-replicate}
+use Rattle.sender.specs.Blocks.{systemPackets, blockRefusal}
+use Rattle.queues.specs.Queues.{Copy, Queue, Queues, freshQueue, freshQueues, queueAt, copyOf, copiesFrom, messageCopies, messageFor, offered, offerQueues, pickQueue, behindFirst, behind, serveQueues, Placed, Taken, takenNone, andTaken, takeUpTo, copiesInQueues, takeFrames}
+use Rattle.queues.specs.Effects.{Effect, noEffect, sendsMessage, takesFrames, takenFor, TakenBlock, bitsOfBlock, queuesAfterEffect, takenBy, blocksTaken}
+use Rattle.queues.specs.Calls.{Call, offer, block, End, accepted, afterCall, effect, effects}
 use Rattle.sender.proofs.BlockRefusals.{accepted as block-accepted}
 use Rattle.queues.proofs.Queues.{taking-cases}
-use Rattle.link.specs.Demand3.{Pass, sender, queues, blocks, systemFrames, placedFrames, framesIn, framesInBlocks, frames, BytesIn}
-use Rattle.link.proofs.Steps.{EachIs, EachIs-append, RightCircuit, Made, MadeSystem, MadeBy, MadeIn, AllMade}
+use Rattle.queues.proofs.StandsCalls.{stands-fresh, effectOf-cases, Right, AllRight, right-calls}
+use Rattle.link.specs.Demand3.{Pass, sender, queues, effectsOfCalls, blocks, Frame, InBlock, notOurs, ours, packetsIn, framesFrom, framesInBlocks, frames, BytesIn}
+use Rattle.link.proofs.Steps.{RightCircuit, Made, MadeSystem, MadeBy, AllMade}
 
 -- ---- circuits of an accepted list of bytes
 
@@ -47,9 +51,9 @@ right-circuit k a x f w =
           (not-false (eqb (k .extension) 0) (rw (eq-eqb (k .extended) 0 e) at (or-right (ltb 1 (k .extended)) _ w)));
     }
 
-right-circuits : (bytes : List ℕ) (c : ℕ) → Bytes bytes → some-circuit addressFF (circuitsOf bytes) ≡ false
-    → some-circuit wrongExtension (circuitsOf bytes) ≡ false → RightCircuit (getD (circuitsOf bytes) c noCircuit)
-unfolding Bytes circuitsOf some-circuit
+right-circuits : (bytes : List ℕ) (c : ℕ) → Bytes bytes → anyOf addressFF (circuitsOf bytes) ≡ false
+    → anyOf wrongExtension (circuitsOf bytes) ≡ false → RightCircuit (getD (circuitsOf bytes) c noCircuit)
+unfolding Bytes circuitsOf anyOf
 right-circuits [] c h f w = right-none
 right-circuits (a ∷ []) c h f w = right-none
 right-circuits (a ∷ e ∷ []) c h f w = right-none
@@ -68,15 +72,10 @@ list-right bytes listed h c =
 
 -- each is one that the sender makes at circuit k
 abbrev MadeCopies : Circuit → List Copy → Type 0
-MadeCopies k cs = EachIs (Made k) cs
-
-MadeCopies-replicate : (n : ℕ) (k : Circuit) (c : Copy) → Made k c → MadeCopies k (replicate n c)
-unfolding EachIs
-MadeCopies-replicate zero k c h = tt
-MadeCopies-replicate (suc n) k c h = (h, MadeCopies-replicate n k c h)
+MadeCopies k cs = AllAre (Made k) cs
 
 MadeCopies-behindFirst : (k : Circuit) (cs : List Copy) → MadeCopies k cs → MadeCopies k (behindFirst cs)
-unfolding EachIs behindFirst
+unfolding AllAre behindFirst
 MadeCopies-behindFirst k [] h = h
 MadeCopies-behindFirst k (c ∷ cs) h = h .1
 
@@ -90,7 +89,7 @@ RightQueues q = (c : ℕ) → RightQueue (queueAt q c)
 
 -- fresh queues are so
 right-fresh : (cs : List Circuit) → ((c : ℕ) → RightCircuit (getD cs c noCircuit)) → RightQueues (freshQueues cs)
-unfolding RightQueues queueAt freshQueues freshQueue EachIs
+unfolding RightQueues queueAt freshQueues freshQueue AllAre
 right-fresh cs right c = rw (List·getD-map freshQueue cs c noCircuit) (record { circuit = right c; copies = tt })
 
 -- what holds of an element and of one that is stored holds after the storing
@@ -109,25 +108,25 @@ right-serve q d right c =
     (record { circuit = right d .circuit; copies = MadeCopies-behindFirst (queueAt q d .circuit) (queueAt q d .copies) (right d .copies) }) (right c)
 
 -- and those to which an offer adds a message's copies
-module _ (priority : ℕ) (message : List ℕ) (few : priority ≤ 3) (short : length message ≤ 4094) (bytes : Bytes message) where
+module _ (priority : ℕ) (message : List ℕ) (few : priority ≤ 3) (short : length message ≤ longest) (bytes : Bytes message) where
   made-copiesFrom : (n : ℕ) (k : Circuit) (times number i : ℕ) → i + n ≤ packets (length message)
       → MadeCopies k (copiesFrom k priority message times number i n)
-  unfolding copiesFrom copyOf EachIs
+  unfolding copiesFrom copyOf AllAre
   made-copiesFrom zero k times number i h = tt
   made-copiesFrom (suc n) k times number i h =
-      EachIs-append (Made k) (replicate times (copyOf k priority message number i)) (copiesFrom k priority message times (suc number) (suc i) n)
-      (MadeCopies-replicate times k (copyOf k priority message number i)
+      AllAre-append (Made k) (replicate times (copyOf k priority message number i)) (copiesFrom k priority message times (suc number) (suc i) n)
+      (AllAre-replicate (Made k) times (copyOf k priority message number i)
       (record { text = message; part = i; is = refl; few = few; short = short; bytes = bytes; inside = omega arith }))
       (made-copiesFrom n k times (suc number) (suc i) (omega arith))
 
   right-offer : (q : Queues) (d repetition : ℕ) → RightQueues q → RightQueues (offerQueues q d priority repetition message)
-  unfolding RightQueues queueAt offerQueues offered messageCopies
+  unfolding RightQueues queueAt offerQueues offered messageFor messageCopies
   right-offer q d repetition right c =
       each-set RightQueue (q .queues) d c (offered (queueAt q d) priority repetition message) (freshQueue noCircuit)
       (record {
         circuit = right d .circuit;
         copies =
-            EachIs-append (Made (queueAt q d .circuit)) (queueAt q d .copies) (messageCopies (queueAt q d) priority repetition message)
+            AllAre-append (Made (queueAt q d .circuit)) (queueAt q d .copies) (messageCopies (messageFor (queueAt q d) priority repetition message))
             (right d .copies)
             (made-copiesFrom (packets (length message)) (queueAt q d .circuit) (suc repetition) (queueAt q d .sent) 0 (omega arith));
       })
@@ -137,14 +136,14 @@ module _ (priority : ℕ) (message : List ℕ) (few : priority ≤ 3) (short : l
 
 -- each is of a copy made at a right circuit
 abbrev MadePlaced : List Placed → Type 0
-MadePlaced ps = EachIs (λ (p : Placed). RightCircuit (p .circuit) × Made (p .circuit) (p .copy)) ps
+MadePlaced ps = AllAre (λ (p : Placed). RightCircuit (p .circuit) × Made (p .circuit) (p .copy)) ps
 
 -- what a block takes leaves right queues
 MadeTaken : Taken → Type 0
 MadeTaken t = RightQueues (t .queues) × MadePlaced (t .frames)
 
 made-takeUpTo : (n : ℕ) (q : Queues) (at enable u : ℕ) → RightQueues q → MadeTaken (takeUpTo n q at enable u)
-unfolding takeUpTo takenNone andTaken MadeTaken EachIs RightQueues
+unfolding takeUpTo takenNone andTaken MadeTaken AllAre RightQueues
 made-takeUpTo zero q at enable u right = (right, tt)
 made-takeUpTo (suc n) q at enable u right =
     taking-cases q at u MadeTaken (pickQueue q enable) _ (right, tt)
@@ -158,96 +157,101 @@ made-takeFrames : (q : Queues) (at enable u : ℕ) → RightQueues q → MadeTak
 unfolding takeFrames
 made-takeFrames q at enable u right = made-takeUpTo (copiesInQueues (q .queues)) q at enable u right
 
--- ---- blocks and calls
+-- ---- effects
 
--- a block's system packet, if it has one, and its frames are made so
+-- what an effect has of the bytes that its call was lent: a message is bytes, and the packets before ours are system packets
+Lent : Effect → Type 0
+Lent noEffect = Unit {0}
+Lent (sendsMessage c priority repetition message) = Bytes message
+Lent (takesFrames t) = AllAre MadeSystem (t .before)
+
+-- the packets before ours and our frames are made so
 record MadeBlock (b : TakenBlock) : Type 0 where
-  system : b .system .wanted ≡ true → MadeSystem (systemPacket (b .system .enable) (b .system .code) (b .system .information))
+  before : AllAre MadeSystem (b .before)
   frames : MadePlaced (b .frames)
 
-abbrev MadeBlocks : List TakenBlock → Type 0
-MadeBlocks bs = EachIs MadeBlock bs
+-- an effect leaves right queues and makes such blocks
+made-effect : (x : Effect) (q : Queues) → Right q x → Lent x → RightQueues q → RightQueues (queuesAfterEffect q x) × AllAre MadeBlock (takenBy q x)
+unfolding Right Lent queuesAfterEffect takenBy takenFor AllAre MadeTaken
+made-effect noEffect q right lent queues = (queues, tt)
+made-effect (sendsMessage c priority repetition message) q right lent queues =
+    (right-offer priority message (right .1) (right .2) lent q c repetition queues, tt)
+made-effect (takesFrames t) q right lent queues =
+    let taken = made-takeFrames q _ (t .enable) (t .usable) queues in
+    (taken .0, (record { before = lent; frames = taken .1 }, tt))
 
--- a call, accepted or refused, leaves right queues and makes such blocks
-made-call : (call : Call) (e : End) (q : Queues) (b : Bool) → accepted e call ≡ b → BytesIn (call ∷ []) → RightQueues q
-    → RightQueues (cond b (queuesAfterAccepted q call) q) × MadeBlocks (cond b (taken q call) [])
-unfolding accepted BytesIn queuesAfterAccepted taken EachIs MadeTaken
-made-call (offer c priority repetition message) e q true a h right =
-    let f : OfferFacts (e .sender) (e .store) c priority repetition message =
-    offerRefusal-zero (e .sender) (e .store) c priority repetition message
-    (eqb-true (offerRefusal (e .sender) (e .store) c priority repetition message) 0 a) in
-    (right-offer priority message (f .priority) (f .message) (h .0) q c repetition right, tt)
-made-call (offer c priority repetition message) e q false a h right = (right, tt)
-made-call (block n u buffer y) e q true a h right =
+made-effects : (xs : List Effect) (q : Queues) → AllRight q xs → AllAre Lent xs → RightQueues q → AllAre MadeBlock (blocksTaken q xs)
+unfolding AllRight AllAre blocksTaken
+made-effects [] q right lent queues = tt
+made-effects (x ∷ xs) q right lent queues =
+    let (after, made) = made-effect x q (right .0) (lent .0) queues in
+    AllAre-append MadeBlock (takenBy q x) (blocksTaken (queuesAfterEffect q x) xs) made
+    (made-effects xs (queuesAfterEffect q x) (right .1) (lent .1) after)
+
+-- ---- calls
+
+lent-accepted : (call : Call) (e : End) → BytesIn call → accepted e call ≡ true → Lent (effect call)
+unfolding effect accepted BytesIn Lent AllAre systemPackets
+lent-accepted (offer c priority repetition message) e bytes a = bytes
+lent-accepted (block n u buffer y) e bytes a =
     let f = block-accepted (e .sender) (e .store) buffer n u y (eqb-true (blockRefusal (e .sender) (e .store) buffer n u y) 0 a) in
-    let t = made-takeFrames q (length (opening y)) (enableBits y) u right in (
-      t .0,
-      (
-        record {
-          system =
-              λ w.
-              record {
-                enable = y .enable;
-                code = y .code;
-                information = y .information;
-                is = refl;
-                enable-le = f .allowed w .enable;
-                code-le = f .allowed w .code;
-                short = f .allowed w .information;
-                bytes = h .0;
-              };
-          frames = t .1;
-        },
-        tt,
-      ),
-    )
-made-call (block n u buffer y) e q false a h right = (right, tt)
+    let made : y .wanted ≡ true → MadeSystem (systemPacket (y .enable) (y .code) (y .information)) =
+    λ w.
+    record {
+      enable = y .enable;
+      code = y .code;
+      information = y .information;
+      is = refl;
+      enable-le = f .allowed w .enable;
+      code-le = f .allowed w .code;
+      short = f .allowed w .information;
+      bytes = bytes;
+    } in
+    cond-either (AllAre MadeSystem) (y .wanted) _ _ (λ w. (made w, tt)) (λ _. tt)
 
--- what the first call of a list is lent, and what the others are
-pub BytesIn-cons : (call : Call) (calls : List Call) → BytesIn (call ∷ calls) → BytesIn (call ∷ []) × BytesIn calls
-unfolding BytesIn
-BytesIn-cons (offer c priority repetition message) calls h = ((h .0, tt), h .1)
-BytesIn-cons (block n u buffer y) calls h = ((h .0, tt), h .1)
-
--- a list of calls
-made-calls : (calls : List Call) (e : End) (q : Queues) → BytesIn calls → RightQueues q → MadeBlocks (blocksTaken e q calls)
-unfolding blocksTaken queuesAfterCall EachIs
-made-calls [] e q h right = tt
-made-calls (call ∷ calls) e q h right =
-    let (here, later) = BytesIn-cons call calls h in
-    let (after, made) = made-call call e q (accepted e call) refl here right in
-    EachIs-append MadeBlock (cond (accepted e call) (taken q call) []) (blocksTaken (afterCall e call) (queuesAfterCall e q call) calls) made
-    (made-calls calls (afterCall e call) (queuesAfterCall e q call) later after)
+lent-calls : (calls : List Call) (e : End) → AllAre BytesIn calls → AllAre Lent (effects e calls)
+unfolding effects AllAre Lent
+lent-calls [] e bytes = tt
+lent-calls (call ∷ calls) e bytes =
+    (effectOf-cases Lent call e (lent-accepted call e (bytes .0)) tt, lent-calls calls (afterCall e call) (bytes .1))
 
 -- ---- the frames of blocks
 
--- a system packet's frame, frames placed, and those of blocks
-made-system : (n : ℕ) (y : System) (w : Bool) → (w ≡ true → MadeSystem (systemPacket (y .enable) (y .code) (y .information)))
-    → AllMade (cond w (record { from = n; packet = systemPacket (y .enable) (y .code) (y .information); whose = none } ∷ []) [])
-unfolding EachIs MadeBy
-made-system n y true h = (h refl, tt)
-made-system n y false h = tt
+-- packets in a block are made so
+abbrev MadeIn : List InBlock → Type 0
+MadeIn xs = AllAre (λ (x : InBlock). MadeBy (x .whose) (x .packet)) xs
 
-made-placed : (ps : List Placed) (n : ℕ) → MadePlaced ps → AllMade (placedFrames n ps)
-unfolding EachIs placedFrames MadeBy
-made-placed [] n h = tt
-made-placed (p ∷ ps) n h = ((refl, h .0 .0, h .0 .1), made-placed ps (n + length (placedBits p)) (h .1))
+made-before : (ps : List (List ℕ)) → AllAre MadeSystem ps → MadeIn (map notOurs ps)
+unfolding AllAre MadeBy
+made-before [] h = tt
+made-before (p ∷ ps) h = (h .0, made-before ps (h .1))
 
-made-blocks : (bs : List TakenBlock) (n : ℕ) → MadeBlocks bs → AllMade (framesInBlocks n bs)
-unfolding EachIs framesInBlocks framesIn systemFrames
+made-placed : (qs : List Placed) → MadePlaced qs → MadeIn (map ours qs)
+unfolding AllAre MadeBy
+made-placed [] h = tt
+made-placed (q ∷ qs) h = ((refl, h .0 .0, h .0 .1), made-placed qs (h .1))
+
+-- and so are those in their frames
+made-frames : (xs : List InBlock) (n : ℕ) → MadeIn xs → AllMade (framesFrom n xs)
+unfolding AllAre framesFrom
+made-frames [] n h = tt
+made-frames (x ∷ xs) n h = (h .0, made-frames xs (n + length (frame (x .packet) ++ flag)) (h .1))
+
+made-blocks : (bs : List TakenBlock) (n : ℕ) → AllAre MadeBlock bs → AllMade (framesInBlocks n bs)
+unfolding AllAre framesInBlocks packetsIn
 made-blocks [] n h = tt
 made-blocks (b ∷ bs) n h =
-    let y : System = b .system in
-    let m : ℕ = n + length (opening y) - 8 in
     let next : ℕ = n + length (bitsOfBlock b) in
-    EachIs-append MadeIn (framesIn n b) (framesInBlocks next bs)
-    (EachIs-append MadeIn (systemFrames n y) (placedFrames m (b .frames))
-    (made-system n y (y .wanted) (h .0 .system)) (made-placed (b .frames) m (h .0 .frames)))
+    AllAre-append (λ (f : Frame). MadeBy (f .whose) (f .packet)) (framesFrom n (packetsIn b)) (framesInBlocks next bs)
+    (made-frames (packetsIn b) n
+    (AllAre-append (λ (x : InBlock). MadeBy (x .whose) (x .packet)) (map notOurs (b .before)) (map ours (b .frames))
+    (made-before (b .before) (h .0 .before)) (made-placed (b .frames) (h .0 .frames))))
     (made-blocks bs next (h .1))
 
 -- each frame's packet is one that the sender makes
-pub frames-made : (p : Pass) → listRefusal (p .senderList) ≡ 0 → Bytes (p .senderList) → BytesIn (p .calls) → AllMade (frames p)
+pub frames-made : (p : Pass) → listRefusal (p .senderList) ≡ 0 → Bytes (p .senderList) → AllAre BytesIn (p .calls) → AllMade (frames p)
 unfolding frames blocks
 frames-made p listed bytes callBytes =
     made-blocks (blocks p) 0
-    (made-calls (p .calls) (sender p) (queues p) callBytes (right-fresh (circuitsOf (p .senderList)) (list-right (p .senderList) listed bytes)))
+    (made-effects (effectsOfCalls p) (queues p) (right-calls (p .calls) (sender p) (queues p) (stands-fresh (p .senderList) (p .senderStore) listed))
+    (lent-calls (p .calls) (sender p) callBytes) (right-fresh (circuitsOf (p .senderList)) (list-right (p .senderList) listed bytes)))

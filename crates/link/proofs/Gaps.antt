@@ -8,7 +8,8 @@ use lib.ListN.{replicate}
 use lib.Dec.{leb}
 use borrow.Author.Tests.{lt-leb}
 use Rattle.hdlc.specs.Bodies.{startsWith, holds}
-use Rattle.link.specs.Demand3.{anyOf, fromFirst, upToLast, fromFirstToLast, atMostSixLost}
+use Rattle.packet.specs.Lists.{anyOf}
+use Rattle.link.specs.Demand3.{fromFirst, upToLast, fromFirstToLast, atMostSixLost}
 
 -- whether one came before, how many were lost since, and what comes: at most six are lost before each that comes then
 unfoldable pub gaps : Bool → ℕ → List Bool → Bool

@@ -9,8 +9,6 @@ pub mod FramesLaid
 pub mod MadePackets
 pub mod OneCircuit
 pub mod CopiesThinned
-pub mod OffersAt
-pub mod Numbering
 pub mod SentAt
 pub mod Gaps
 pub mod Losses

@@ -9,15 +9,17 @@ use lib.ListN.{length, replicate}
 use lib.Dec.{leb, ltb, eqb}
 use borrow.Author.Tests.{leb-true, eq-eqb, ne-eqb}
 use Rattle.bits.proofs.Tests.{and-left, and-right}
-use Rattle.queues.specs.Sent.{Sent, indexIn, Numbered}
-use Rattle.receiver.specs.declared.Slot.{Slot}
-use Rattle.receiver.specs.declared.Fate.{Fate}
-use Rattle.receiver.specs.declared.Fate.the-variants.{Begun, Held, Whole, Orphan, Wrong}
-use Rattle.receiver.specs.Record.{freshSlot}
-use Rattle.receiver.specs.Packets.{control, index, link, segment}
-use Rattle.receiver.specs.Notices.{headerLength, messageLength, wrongHeader, isCopy, lossOf, stillOpen, firstFate, betweenFate, lastFate, fateOf, closedSlot, slotAfter}
-use Rattle.receiver.proofs.SlotsInRange.{cond-either}
-use Rattle.link.specs.Demand3.{anyOf, fromFirst, upToLast, fromFirstToLast, lost, atMostSixLost}
+use Rattle.packet.specs.Lists.{anyOf}
+use Rattle.queues.specs.Sent.{Sent, Numbered}
+use Rattle.notices.specs.declared.Slot.{Slot}
+use Rattle.notices.specs.declared.Fate.{Fate}
+use Rattle.notices.specs.declared.Fate.the-variants.{Begun, Held, Whole, Orphan, Wrong}
+use Rattle.notices.specs.Slots.{freshSlot}
+use Rattle.parsing.specs.Packets.{index, link, segment}
+use Rattle.parsing.specs.Headers.{headerLength, messageLength, wrongHeader}
+use Rattle.notices.specs.Fates.{isCopy, lossOf, stillOpen, firstFate, betweenFate, lastFate, fateOf, closedSlot, slotAfter}
+use Rattle.packet.proofs.Choices.{cond-either}
+use Rattle.link.specs.Demand3.{fromFirst, upToLast, fromFirstToLast, lost, atMostSixLost}
 use Rattle.link.proofs.Steps.{lossesHeard, ThinnedBy, Thinned, cameOf}
 use Rattle.link.proofs.Gaps.{gaps, gaps-given, upToLast-none}
 
@@ -80,11 +82,6 @@ lossesHeard-packet k t p rest n e later =
     let u : Slot = slotAfter (fateOf t p) t p in
     let h : Last p u = last-new (fateOf t p) t p (new-fate t p e) in
     rw e (ap (_+_ (lossOf t p)) (lossesHeard-copies k u p rest h ∙ later u h))
-
--- the index of a packet is that which the sender counts
-pub index-in : (p : List ℕ) → index p ≡ indexIn p
-unfolding index control indexIn
-index-in p = refl
 
 -- a packet of number n, where one of number a came and d were lost since
 module _ (t : Slot) (p : List ℕ) (n a d : ℕ) (seen : t .seen ≡ true) (last : t .last ≡ a % 8) (here : index p ≡ n % 8) (next : n ≡ a + 1 + d)
@@ -149,7 +146,7 @@ module _ (comes : ℕ → Bool) where
           → AddsUp n 0 ps → AddsUp a (suc d) ps → lossesHeard t heard ≡ lostBehind d (b ∷ cameOf comes ps)
       go true thin few came gone =
           let six : d ≤ 6 = leb-true d 6 (and-left (leb d 6) (gaps true 0 (cameOf comes ps)) few) in
-          let here : index (p .original .packet) ≡ n % 8 = index-in (p .original .packet) ∙ numbers .1 in
+          let here : index (p .original .packet) ≡ n % 8 = numbers .1 in
           losses-came t (p .original .packet) n ps heard (isCopy-next t (p .original .packet) n a d seen last here next six) here thin
           (and-right (leb d 6) (gaps true 0 (cameOf comes ps)) few) came
           ∙ rw (lossOf-next t (p .original .packet) n a d seen last here next six)
@@ -167,7 +164,7 @@ module _ (comes : ℕ → Bool) where
           → (Thinned comes ps heard → gaps false (suc d) (cameOf comes ps) ≡ true → lossesHeard freshSlot heard ≡ lost (upToLast (fromFirst (cameOf comes ps))))
           → lossesHeard freshSlot heard ≡ lost (upToLast (fromFirst (b ∷ cameOf comes ps)))
       go true thin few gone =
-          losses-came freshSlot (p .original .packet) n ps heard refl (index-in (p .original .packet) ∙ numbers .1) thin few
+          losses-came freshSlot (p .original .packet) n ps heard refl (numbers .1) thin few
           (losses-seen ps (suc n) n 0 (omega arith) (numbers .2))
           ∙ zero-add (lost (upToLast (cameOf comes ps)))
       go false thin few gone = gone thin few

@@ -9,22 +9,11 @@ use borrow.Author.Tests.{lt-leb, le-ltb, eq-eqb, ne-eqb, eqb-true, eqb-false}
 use lib.ListN.{length, drop, getD}
 use lib.Dec.{eqb}
 use Rattle.packet.specs.declared.Circuit.{Circuit}
-use Rattle.packet.specs.Messages.{linkOf}
 use Rattle.packet.specs.Packets.{extensionOf, packetOf, systemPacket}
 use Rattle.packet.specs.Packets.{control as controlOf}
-use Rattle.receiver.specs.Packets.{address, control, link, extended, lead, segment, circuitIn, descriptor, code, information, malformedSystem, malformed}
-use Rattle.receiver.proofs.PacketParts.{length-segment}
+use Rattle.parsing.specs.Packets.{address, control, link, extended, lead, segment, circuitIn, descriptor, code, information, malformedSystem, malformed}
+use Rattle.parsing.proofs.PacketParts.{length-segment}
 use Rattle.link.proofs.Steps.{RightCircuit}
-
--- a link number that the sender gives is 0, 1 or 2
-pub linkOf-lt : (k n : ℕ) → linkOf k n < 3
-unfolding linkOf
-linkOf-lt k n = go (eqb k 0) (eqb (k + 1) n)
-  where
-    go : (a b : Bool) → cond a 2 (cond b 1 0) < 3
-    go true b = omega arith
-    go false true = omega arith
-    go false false = omega arith
 
 -- ---- a circuit's packet, of link number l, index i, priority y and segment s
 

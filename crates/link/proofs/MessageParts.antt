@@ -13,38 +13,40 @@ use lib.Seq.{sets, sets-eq, length-sets, length-take-le, take-add, take-at, drop
 use Rattle.packet.specs.Messages.{header, partFrom, partOf, packets, linkOf}
 use Rattle.packet.specs.Messages.{segment as segmentOf}
 use Rattle.packet.proofs.Segments.{header-short, header-long, length-header, segment-part, partOf-le}
-use Rattle.receiver.specs.declared.Slot.{Slot}
-use Rattle.receiver.specs.declared.Fate.{Fate}
-use Rattle.receiver.specs.declared.Fate.the-variants.{Begun, Held, Whole, Orphan}
-use Rattle.receiver.specs.Record.{region}
-use Rattle.receiver.specs.Packets.{link, index, segment}
-use Rattle.receiver.specs.Notices.{twoBytes, headerLength, messageLength, wrongHeader, isCopy, lossOf, stillOpen, betweenFate, lastFate, fateOf, messagePart, closedSlot, slotAfter, placeOf, storeAfter}
-use Rattle.receiver.proofs.PacketParts.{headerLength-one, headerLength-two, messageLength-one, messageLength-two, wrongHeader-one, wrongHeader-last, messagePart-later}
-use Rattle.receiver.proofs.Fates.{stillOpen-link, firstFate-whole, firstFate-begun, fateOf-copy, fateOf-first, fateOf-orphan, fateOf-between, fateOf-last}
-use Rattle.receiver.proofs.Stores.{placeOf-first, placeOf-later}
+use Rattle.notices.specs.declared.Slot.{Slot}
+use Rattle.notices.specs.declared.Fate.{Fate}
+use Rattle.notices.specs.declared.Fate.the-variants.{Begun, Held, Whole, Orphan}
+use Rattle.packet.specs.Stores.{region}
+use Rattle.parsing.specs.Packets.{link, index, segment}
+use Rattle.parsing.specs.Headers.{twoBytes, headerLength, messageLength, wrongHeader, messagePart}
+use Rattle.notices.specs.Fates.{isCopy, lossOf, stillOpen, betweenFate, lastFate, fateOf, closedSlot, slotAfter}
+use Rattle.notices.specs.Stores.{placeOf, storeAfterFate}
+use Rattle.parsing.proofs.HeaderParts.{headerLength-one, headerLength-two, messageLength-one, messageLength-two, wrongHeader-one, wrongHeader-last, messagePart-later}
+use Rattle.notices.proofs.FateLaws.{stillOpen-link, firstFate-whole, firstFate-begun, fateOf-copy, fateOf-first, fateOf-orphan, fateOf-between, fateOf-last}
+use Rattle.notices.proofs.StoreLaws.{placeOf-first, placeOf-later}
 use Rattle.link.specs.Demand3.{handedFrom}
 use Rattle.link.proofs.Steps.{handedHeard}
 
 -- ---- a header before some bytes, as the receiver reads it
 
 -- what it tells: its own length, the message's, and that it is right
-record Told (n : ℕ) (s : List ℕ) : Type 0 where
+record HeaderTells (n : ℕ) (s : List ℕ) : Type 0 where
   size : length (header n) ≡ headerLength s
   holds : n ≡ messageLength s
   right : false ≡ wrongHeader s
 
-told : (n : ℕ) (rest : List ℕ) → n ≤ 4094 → Told n (header n ++ rest)
+told : (n : ℕ) (rest : List ℕ) → n ≤ 4094 → HeaderTells n (header n ++ rest)
 unfolding twoBytes
 told n rest h = go (leb n 15) refl
   where
-    go : (t : Bool) → leb n 15 ≡ t → Told n (header n ++ rest)
+    go : (t : Bool) → leb n 15 ≡ t → HeaderTells n (header n ++ rest)
     go true e =
         let low : n ≤ 15 = leb-true n 15 e in
         let one : eqb (n / 16 % 2) 1 ≡ false = ne-eqb (n / 16 % 2) 1 (omega arith) in
         let s : List ℕ = n ∷ rest in
         let is : n ≡ n % 16 = omega arith in
         let size : length (header n) ≡ headerLength s = rw (header-short n low) (headerLength-one s one) in
-        let told : Told n s = record { size = size; holds = is ∙ messageLength-one s one; right = wrongHeader-one s one } in
+        let told : HeaderTells n s = record { size = size; holds = is ∙ messageLength-one s one; right = wrongHeader-one s one } in
         rw (header-short n low) told
     go false e =
         let high : 15 < n = leb-false n 15 e in
@@ -54,7 +56,7 @@ told n rest h = go (leb n 15) refl
         let is : n ≡ messageLength s = sum ∙ messageLength-two s two in
         let right : eqb n 4095 ≡ wrongHeader s = wrongHeader-last s n is two (omega arith) (omega arith) in
         let size : length (header n) ≡ headerLength s = rw (header-long n high) (headerLength-two s two) in
-        let told : Told n s = record { size = size; holds = is; right = sym (ne-eqb n 4095 (omega arith)) ∙ right } in
+        let told : HeaderTells n s = record { size = size; holds = is; right = sym (ne-eqb n 4095 (omega arith)) ∙ right } in
         rw (header-long n high) told
 
 -- ---- the parts
@@ -143,7 +145,7 @@ link-later text j p c = rw (c .linked, eqb·suc-zero) (go (eqb (suc j + 1) (pack
     go false e = omega arith
 
 -- its message bytes are that part
-told-carried : (text p : List ℕ) → Carries text 0 p → Told (length text) (segment p)
+told-carried : (text p : List ℕ) → Carries text 0 p → HeaderTells (length text) (segment p)
 told-carried text p c = rw (carried-first text p c) (told (length text) (part text 0) (c .short))
 
 messagePart-carried : (text : List ℕ) (j : ℕ) (p : List ℕ) → Carries text j p → messagePart p ≡ part text j
@@ -227,7 +229,7 @@ fate-held text j t p d more =
 -- copies of a packet change nothing
 copies-heard : (c : ℕ) (t : Slot) (area p : List ℕ) (rest : List (List ℕ)) → isCopy t p ≡ true
     → handedHeard t area (replicate c p ++ rest) ≡ handedHeard t area rest
-unfolding handedHeard handedFrom slotAfter storeAfter
+unfolding handedHeard handedFrom slotAfter storeAfterFate
 copies-heard zero t area p rest e = refl
 copies-heard (suc c) t area p rest e = rw (← fateOf-copy t p true (sym e) refl) (copies-heard c t area p rest e)
 
@@ -235,12 +237,12 @@ copies-heard (suc c) t area p rest e = rw (← fateOf-copy t p true (sym e) refl
 heard-once : (f : Fate) (t : Slot) (area p : List ℕ) (c : ℕ) (rest : List (List ℕ)) → f ≡ fateOf t p
     → slotAfter f t p .seen ≡ true → slotAfter f t p .last ≡ index p
     → handedHeard t area (replicate (suc c) p ++ rest)
-    ≡ handedFrom f 0 (storeAfter f 0 t p area) ++ handedHeard (slotAfter f t p) (storeAfter f 0 t p area) rest
+    ≡ handedFrom f 0 (storeAfterFate f 0 t p area) ++ handedHeard (slotAfter f t p) (storeAfterFate f 0 t p area) rest
 unfolding handedHeard isCopy
 heard-once f t area p c rest e seen last =
     rw (← e)
-    (ap (λ (l : List (List ℕ)). handedFrom f 0 (storeAfter f 0 t p area) ++ l)
-    (copies-heard c (slotAfter f t p) (storeAfter f 0 t p area) p rest (rw (seen, last, eq-eqb (index p) (index p) refl))))
+    (ap (λ (l : List (List ℕ)). handedFrom f 0 (storeAfterFate f 0 t p area) ++ l)
+    (copies-heard c (slotAfter f t p) (storeAfterFate f 0 t p area) p rest (rw (seen, last, eq-eqb (index p) (index p) refl))))
 
 -- what a packet that is due writes is its part
 written-due : (text : List ℕ) (j : ℕ) (t : Slot) (area p : List ℕ) → Due text j t p
@@ -252,7 +254,7 @@ written-due text j t area p d = rw (messagePart-carried text j p (d .carries), p
 pub heard-end : (text : List ℕ) (j : ℕ) (t : Slot) (area p : List ℕ) (c : ℕ) (rest : List (List ℕ)) → Due text j t p → suc j ≡ packets (length text)
     → length text ≤ length area → take (partFrom (length text) j) area ≡ take (partFrom (length text) j) text
     → handedHeard t area (replicate (suc c) p ++ rest) ≡ text ∷ handedHeard (closedSlot p) (withPart text j area) rest
-unfolding slotAfter closedSlot storeAfter handedFrom region
+unfolding slotAfter closedSlot storeAfterFate handedFrom region
 heard-end text j t area p c rest d e room before =
     let all : take (length text) (withPart text j area) ≡ text =
     (rw (part-end text j e) at (part-written text j area (d .carries .inside) room before)) ∙ take-length text in
@@ -266,7 +268,7 @@ heldSlot text j p = record { seen = true; last = index p; length = length text; 
 -- with one before it the message is held up to the next part
 pub heard-more : (text : List ℕ) (j : ℕ) (t : Slot) (area p : List ℕ) (c : ℕ) (rest : List (List ℕ)) → Due text j t p → suc j < packets (length text)
     → handedHeard t area (replicate (suc c) p ++ rest) ≡ handedHeard (heldSlot text (suc j) p) (withPart text j area) rest
-unfolding slotAfter storeAfter handedFrom heldSlot partFrom
+unfolding slotAfter storeAfterFate handedFrom heldSlot partFrom
 heard-more text zero t area p c rest d more =
     let k = told-carried text p (d .carries) in
     let from : length (part text 0) ≡ partFrom (length text) 1 = omega (arith, part-next text 0 more) in
@@ -286,7 +288,7 @@ written-more text j area more room before = rw (part-next text j more) at (part-
 -- one that is not the first and finds no message open hands nothing over
 pub heard-orphan : (text : List ℕ) (j : ℕ) (t : Slot) (area p : List ℕ) (c : ℕ) (rest : List (List ℕ)) → Carries text (suc j) p
     → isCopy t p ≡ false → stillOpen t p ≡ false → handedHeard t area (replicate (suc c) p ++ rest) ≡ handedHeard (closedSlot p) area rest
-unfolding slotAfter closedSlot storeAfter handedFrom
+unfolding slotAfter closedSlot storeAfterFate handedFrom
 heard-orphan text j t area p c rest d new shut =
     heard-once Orphan t area p c rest
     (fateOf-orphan t p false (sym new) refl (link p) refl false (sym shut) (segment p) refl (link-later text j p d) refl) refl refl

@@ -15,31 +15,39 @@ use Rattle.bits.proofs.Lists.{drop-sets-before, take-sets-behind, take-sets-ins
 use Rattle.bits.proofs.Tests.{and-left, and-right, or-left, or-right}
 use Rattle.packet.specs.declared.Circuit.{Circuit}
 use Rattle.packet.specs.declared.Circuits.{Circuits}
-use Rattle.packet.specs.Circuits.{circuitsOf, some-circuit, alike, twoAlike, listRefusal, listed, noCircuit, listing}
-use Rattle.packet.specs.Messages.{packets, linkOf}
+use Rattle.packet.specs.Circuits.{circuitsOf, alike, twoAlike, listRefusal, listed, noCircuit, listing, numberFrom, foundOption}
+use Rattle.packet.specs.Messages.{longest, packets, linkOf}
 use Rattle.packet.specs.Messages.{segment as segmentOf}
 use Rattle.packet.specs.Packets.{packetOf, systemPacket}
-use Rattle.packet.proofs.CircuitLists.{alike-is, alike-self, circuitsRefusal-zero, some-circuit-each, listRefusal-length, listed-listing, listing-refusal}
-use Rattle.packet.proofs.Segments.{length-segment as length-segmentOf}
+use Rattle.packet.specs.Lists.{anyOf, firstFrom, AllAre}
+use Rattle.packet.proofs.CircuitLists.{alike-is, alike-self, circuitsRefusal-zero, anyOf-none, listRefusal-length, listed-listing, listing-refusal}
+use Rattle.packet.proofs.Segments.{length-segment as length-segmentOf, linkOf-lt}
 use Rattle.queues.specs.Queues.{Copy, copyOf, Placed}
-use Rattle.receiver.specs.declared.Slot.{Slot}
+use Rattle.notices.specs.declared.Slot.{Slot}
 use Rattle.receiver.specs.declared.Receiver.{Receiver}
-use Rattle.receiver.specs.declared.Found.the-variants.{At, Nowhere}
-use Rattle.receiver.specs.declared.Fate.{Fate}
-use Rattle.receiver.specs.declared.Fate.the-variants.{Copy as CopyFate, Begun, Held, Whole, Orphan, Wrong}
-use Rattle.receiver.specs.Record.{region, systemPlace, freshSlot, fresh, slotAt, slotInRange, inRange}
-use Rattle.receiver.specs.Packets.{address, link, segment, circuitIn, numberFrom, information, malformed}
-use Rattle.receiver.specs.Found.{foundOption}
-use Rattle.receiver.specs.Notices.{headerLength, messageLength, wrongHeader, isCopy, lossOf, stillOpen, firstFate, betweenFate, lastFate, fateOf, messagePart, slotAfter, placeOf, storeAfter, Heard, withSlot, heardAt, systemHeard, heard}
-use Rattle.receiver.proofs.SlotsInRange.{cond-either}
-use Rattle.receiver.proofs.InRange.{fresh-in-range, heard-in-range}
-use Rattle.receiver.proofs.PacketParts.{right-segment}
-use Rattle.receiver.proofs.Fates.{slotInRange-facts}
-use Rattle.receiver.proofs.Hearings.{found-slot, heard-system, heard-elsewhere, heard-circuit}
+use Rattle.packet.specs.declared.Found.the-variants.{At, Nowhere}
+use Rattle.notices.specs.declared.Hearing.{Hearing}
+use Rattle.notices.specs.declared.Fate.{Fate}
+use Rattle.notices.specs.declared.Fate.the-variants.{Copy as CopyFate, Begun, Held, Whole, Orphan, Wrong}
+use Rattle.packet.specs.Stores.{region}
+use Rattle.notices.specs.Stores.{systemPlace, placeOf, storeAfterFate, storeAfterNotice}
+use Rattle.notices.specs.Slots.{freshSlot, slotAt, slotInRange}
+use Rattle.receiver.specs.Record.{fresh, inRange}
+use Rattle.receiver.specs.Reading.{Noticed, passed}
+use Rattle.parsing.specs.Packets.{address, link, segment, circuitIn, information, malformed}
+use Rattle.parsing.specs.Headers.{headerLength, messageLength, wrongHeader, messagePart}
+use Rattle.notices.specs.Fates.{isCopy, lossOf, stillOpen, firstFate, betweenFate, lastFate, fateOf, slotAfter}
+use Rattle.notices.specs.Heard.{heardAt, systemHeard, heard}
+use Rattle.packet.proofs.Choices.{cond-either}
+use Rattle.receiver.proofs.InRange.{fresh-in-range, passed-in-range}
+use Rattle.receiver.proofs.ReadLaws.{before-hearing}
+use Rattle.parsing.proofs.PacketParts.{right-segment}
+use Rattle.notices.proofs.FateLaws.{slotInRange-facts}
+use Rattle.notices.proofs.Hearings.{found-slot, heard-system, heard-elsewhere, heard-circuit}
 use Rattle.link.specs.Demand3.{Frame, isNumber, lossAt, lossesAt, handedFrom, handedAt, handedOver}
-use Rattle.link.proofs.Steps.{EachIs, toldByPackets, RightCircuit, Made, MadeBy, AllMade, isOf, packetsAt, lossesHeard, handedHeard}
+use Rattle.link.proofs.Steps.{toldByPackets, RightCircuit, Made, MadeBy, AllMade, isOf, packetsAt, lossesHeard, handedHeard}
 use Rattle.link.proofs.FramesLaid.{right-copyOf}
-use Rattle.link.proofs.MadePackets.{linkOf-lt, address-made, circuitIn-made, malformed-made, system-address, system-malformed}
+use Rattle.link.proofs.MadePackets.{address-made, circuitIn-made, malformed-made, system-address, system-malformed}
 
 -- ---- regions
 
@@ -83,7 +91,7 @@ alike-one a b c other same = go (alike b c) refl
 
 -- a number that is found is not below the first
 isNumber-below : (cs : List Circuit) (d : Circuit) (m n : ℕ) → n < m → isNumber n (numberFrom cs d m) ≡ false
-unfolding isNumber numberFrom
+unfolding isNumber numberFrom firstFrom
 isNumber-below [] d m n h = refl
 isNumber-below (c ∷ cs) d m n h = go (alike c d) (isNumber-below cs d (m + 1) n (omega arith))
   where
@@ -94,7 +102,7 @@ isNumber-below (c ∷ cs) d m n h = go (alike c d) (isNumber-below cs d (m + 1) 
 -- where no two are alike, a circuit is found at the number of the one that is alike
 isNumber-alike : (cs : List Circuit) (d : Circuit) (m n : ℕ) → twoAlike cs ≡ false → n < length cs
     → isNumber (m + n) (numberFrom cs d m) ≡ alike (getD cs n noCircuit) d
-unfolding isNumber numberFrom twoAlike
+unfolding isNumber numberFrom firstFrom twoAlike
 isNumber-alike [] d m n e h = absurd (omega arith)
 isNumber-alike (c ∷ cs) d m zero e h = go (alike c d)
   where
@@ -102,12 +110,12 @@ isNumber-alike (c ∷ cs) d m zero e h = go (alike c d)
     go true = eq-eqb m (m + 0) (omega arith)
     go false = isNumber-below cs d (m + 1) (m + 0) (omega arith)
 isNumber-alike (c ∷ cs) d m (suc n) e h =
-    go (alike c d) refl (isNumber-alike cs d (m + 1) n (or-right (some-circuit (alike c) cs) (twoAlike cs) e) (omega arith))
+    go (alike c d) refl (isNumber-alike cs d (m + 1) n (or-right (anyOf (alike c) cs) (twoAlike cs) e) (omega arith))
   where
     go : (t : Bool) → alike c d ≡ t → isNumber (m + 1 + n) (numberFrom cs d (m + 1)) ≡ alike (getD cs n noCircuit) d
         → isNumber (m + suc n) (cond t (some m) (numberFrom cs d (m + 1))) ≡ alike (getD cs n noCircuit) d
     go true same later =
-        let other = some-circuit-each (alike c) cs n (omega arith) (or-left (some-circuit (alike c) cs) (twoAlike cs) e) in
+        let other = anyOf-none (alike c) cs n (omega arith) (or-left (anyOf (alike c) cs) (twoAlike cs) e) in
         ne-eqb m (m + suc n) (omega arith) ∙ sym (alike-one c (getD cs n noCircuit) d other same)
     go false other later =
         let at : m + suc n ≡ m + 1 + n = omega arith in
@@ -119,35 +127,35 @@ record Inside (t : Slot) (p : List ℕ) (f : Fate) : Type 0 where
   place : ℕ
   part : List ℕ
   fits : place + length part ≤ region
-  writes : (c : ℕ) (store : List ℕ) → storeAfter f c t p store ≡ sets store (region * c + place) part
+  writes : (c : ℕ) (store : List ℕ) → storeAfterFate f c t p store ≡ sets store (region * c + place) part
   hands : (c : ℕ) (store : List ℕ) → handedFrom f c store ≡ handedFrom f 0 (area c store)
 
 module _ (t : Slot) (p : List ℕ) where
   -- a copy, an orphan and a wrong packet write nothing
   inside-copy : Inside t p CopyFate
-  unfolding storeAfter handedFrom
+  unfolding storeAfterFate handedFrom
   inside-copy = record { place = 0; part = []; fits = omega arith; writes = λ c store. refl; hands = λ c store. refl }
 
   inside-orphan : Inside t p Orphan
-  unfolding storeAfter handedFrom
+  unfolding storeAfterFate handedFrom
   inside-orphan = record { place = 0; part = []; fits = omega arith; writes = λ c store. refl; hands = λ c store. refl }
 
   inside-wrong : Inside t p Wrong
-  unfolding storeAfter handedFrom
+  unfolding storeAfterFate handedFrom
   inside-wrong = record { place = 0; part = []; fits = omega arith; writes = λ c store. refl; hands = λ c store. refl }
 
   -- the others write the packet's message bytes
   module _ (fits : placeOf t p + length (messagePart p) ≤ region) where
     inside-begun : Inside t p Begun
-    unfolding storeAfter handedFrom
+    unfolding storeAfterFate handedFrom
     inside-begun = record { place = placeOf t p; part = messagePart p; fits = fits; writes = λ c store. refl; hands = λ c store. refl }
 
     inside-held : Inside t p Held
-    unfolding storeAfter handedFrom
+    unfolding storeAfterFate handedFrom
     inside-held = record { place = placeOf t p; part = messagePart p; fits = fits; writes = λ c store. refl; hands = λ c store. refl }
 
     inside-whole : (n : ℕ) → n ≤ region → Inside t p (Whole n)
-    unfolding storeAfter handedFrom region
+    unfolding storeAfterFate handedFrom region
     inside-whole n most =
         record {
           place = placeOf t p;
@@ -164,7 +172,7 @@ module _ (t : Slot) (p : List ℕ) where
     fits-first e = rw (eq-eqb (link p) 2 e, length-drop) (omega (arith, right-segment p right))
 
     fits-later : (link p ≡ 2 → ⊥) → t .place + length (segment p) ≤ t .length → placeOf t p + length (messagePart p) ≤ region
-    unfolding placeOf messagePart region
+    unfolding placeOf messagePart region longest
     fits-later e h = rw (ne-eqb (link p) 2 e) (omega (arith, slotInRange-facts t range .short))
 
     inside-first : link p ≡ 2 → Inside t p (firstFate (segment p))
@@ -189,7 +197,7 @@ module _ (t : Slot) (p : List ℕ) where
         (λ _. inside-wrong)
 
     inside-last : (link p ≡ 2 → ⊥) → Inside t p (lastFate t (segment p))
-    unfolding lastFate region
+    unfolding lastFate region longest
     inside-last e =
         cond-either (Inside t p) (eqb (t .place + length (segment p)) (t .length)) _ _
         (λ all.
@@ -208,52 +216,65 @@ module _ (t : Slot) (p : List ℕ) where
 
 -- the region then, as if it were the store
 area-after : (t : Slot) (p : List ℕ) (f : Fate) → Inside t p f → (n : ℕ) (store : List ℕ)
-    → area n (storeAfter f n t p store) ≡ storeAfter f 0 t p (area n store)
+    → area n (storeAfterFate f n t p store) ≡ storeAfterFate f 0 t p (area n store)
 unfolding region
 area-after t p f w n store =
     rw (w .writes n store, w .writes 0 (area n store), zero-add) (area-own n store (w .place) (w .part) (w .fits))
 
 -- ---- a packet heard
 
+-- what a packet leaves and tells of which this is heard
+abbrev leaves : Hearing → Receiver → List ℕ → List ℕ → Noticed
+leaves h r store p =
+    record {
+      receiver = record { circuits = r .circuits; slots = h .slots; framing = r .framing };
+      store = storeAfterNotice (h .notice) (r .slots) p store;
+      notice = h .notice;
+    }
+
+passed-leaves : (r : Receiver) (store p : List ℕ) (h : Hearing) → h ≡ heard (r .circuits) (r .slots) p → passed r store p ≡ leaves h r store p
+unfolding passed
+passed-leaves r store p h e = rw e
+
 -- it is one of circuit n, and its slot and its region tell all
-record Own (n : ℕ) (r : Receiver) (store p : List ℕ) (h : Heard) : Type 0 where
-  loss : lossAt n (h .notice) ≡ cond (isCopy (slotAt r n) p) 0 (lossOf (slotAt r n) p)
-  slot : slotAt (h .receiver) n ≡ slotAfter (fateOf (slotAt r n) p) (slotAt r n) p
-  written : area n (h .store) ≡ storeAfter (fateOf (slotAt r n) p) 0 (slotAt r n) p (area n store)
-  handed : handedAt n (h .notice) (h .store) ≡ handedFrom (fateOf (slotAt r n) p) 0 (area n (h .store))
+record Own (n : ℕ) (r : Receiver) (store p : List ℕ) (h : Noticed) : Type 0 where
+  loss : lossAt n (h .notice) ≡ cond (isCopy (slotAt (r .slots) n) p) 0 (lossOf (slotAt (r .slots) n) p)
+  slot : slotAt (h .receiver .slots) n ≡ slotAfter (fateOf (slotAt (r .slots) n) p) (slotAt (r .slots) n) p
+  written : area n (h .store) ≡ storeAfterFate (fateOf (slotAt (r .slots) n) p) 0 (slotAt (r .slots) n) p (area n store)
+  handed : handedAt n (h .notice) (h .store) ≡ handedFrom (fateOf (slotAt (r .slots) n) p) 0 (area n (h .store))
 
 -- it is none of circuit n, and tells and changes nothing there
-record Other (n : ℕ) (r : Receiver) (store : List ℕ) (h : Heard) : Type 0 where
+record Other (n : ℕ) (r : Receiver) (store : List ℕ) (h : Noticed) : Type 0 where
   loss : lossAt n (h .notice) ≡ 0
-  slot : slotAt (h .receiver) n ≡ slotAt r n
+  slot : slotAt (h .receiver .slots) n ≡ slotAt (r .slots) n
   written : area n (h .store) ≡ area n store
   handed : handedAt n (h .notice) (h .store) ≡ []
 
 -- one of the two, by a test
-abbrev OwnIf : Bool → ℕ → Receiver → List ℕ → List ℕ → Heard → Type 0
+abbrev OwnIf : Bool → ℕ → Receiver → List ℕ → List ℕ → Noticed → Type 0
 OwnIf true n r store p h = Own n r store p h
 OwnIf false n r store p h = Other n r store h
 
 -- a packet of a listed circuit
 module _ (n : ℕ) (r : Receiver) (store p : List ℕ) (right : malformed p ≡ false) where
   -- circuit n itself
-  heardAt-own : slotInRange (slotAt r n) ≡ true → n < length (r .slots) → Own n r store p (heardAt n r store p)
-  unfolding heardAt withSlot slotAt lossAt handedAt
+  heardAt-own : slotInRange (slotAt (r .slots) n) ≡ true → n < length (r .slots) → Own n r store p (leaves (heardAt n (r .slots) p) r store p)
+  unfolding heardAt storeAfterNotice slotAt lossAt handedAt
   heardAt-own range inside =
-      let t : Slot = slotAt r n in
+      let t : Slot = slotAt (r .slots) n in
       let w = inside-fate t p right range in
       record {
         loss = rw (eq-eqb n n refl);
         slot = getD-set-same (r .slots) n (slotAfter (fateOf t p) t p) freshSlot inside;
         written = area-after t p (fateOf t p) w n store;
-        handed = rw (eq-eqb n n refl) (w .hands n (storeAfter (fateOf t p) n t p store));
+        handed = rw (eq-eqb n n refl) (w .hands n (storeAfterFate (fateOf t p) n t p store));
       }
 
   -- another one
-  heardAt-other : (c : ℕ) → (c ≡ n → ⊥) → slotInRange (slotAt r c) ≡ true → Other n r store (heardAt c r store p)
-  unfolding heardAt withSlot slotAt lossAt handedAt
+  heardAt-other : (c : ℕ) → (c ≡ n → ⊥) → slotInRange (slotAt (r .slots) c) ≡ true → Other n r store (leaves (heardAt c (r .slots) p) r store p)
+  unfolding heardAt storeAfterNotice slotAt lossAt handedAt
   heardAt-other c other range =
-      let t : Slot = slotAt r c in
+      let t : Slot = slotAt (r .slots) c in
       let w = inside-fate t p right range in
       record {
         loss = rw (ne-eqb c n other);
@@ -263,10 +284,10 @@ module _ (n : ℕ) (r : Receiver) (store p : List ℕ) (right : malformed p ≡ 
       }
 
   -- whichever it is
-  heardAt-any : (c : ℕ) → slotInRange (slotAt r c) ≡ true → n < length (r .slots) → OwnIf (eqb c n) n r store p (heardAt c r store p)
+  heardAt-any : (c : ℕ) → slotInRange (slotAt (r .slots) c) ≡ true → n < length (r .slots) → OwnIf (eqb c n) n r store p (leaves (heardAt c (r .slots) p) r store p)
   heardAt-any c range inside = go (eqb c n) refl
     where
-      go : (b : Bool) → eqb c n ≡ b → OwnIf b n r store p (heardAt c r store p)
+      go : (b : Bool) → eqb c n ≡ b → OwnIf b n r store p (leaves (heardAt c (r .slots) p) r store p)
       go true e =
           let is : c ≡ n = eqb-true c n e in
           rw is (heardAt-own (rw is at range) inside)
@@ -280,7 +301,7 @@ record Ready (cs : Circuits) (r : Receiver) : Type 0 where
   range : inRange r ≡ true
 
 -- a packet heard leaves one
-record Step (b : Bool) (cs : Circuits) (n : ℕ) (r : Receiver) (store p : List ℕ) (h : Heard) : Type 0 where
+record Step (b : Bool) (cs : Circuits) (n : ℕ) (r : Receiver) (store p : List ℕ) (h : Noticed) : Type 0 where
   told : OwnIf b n r store p h
   ready : Ready cs (h .receiver)
 
@@ -293,38 +314,41 @@ record PacketOf (k : Circuit) (p : List ℕ) : Type 0 where
 
 module _ (cs : Circuits) (n : ℕ) (n-lt : n < 4) (r : Receiver) (store p : List ℕ) (s : Ready cs r) where
   -- a circuit's packet tells of circuit n if that is the number found for it
-  step-circuit : (k : Circuit) → PacketOf k p → Step (isNumber n (numberFrom (listed cs) k 0)) cs n r store p (heard r store p)
-  unfolding isNumber foundOption heardAt withSlot lossAt handedAt
+  step-circuit : (k : Circuit) → PacketOf k p → Step (isNumber n (numberFrom (listed cs) k 0)) cs n r store p (passed r store p)
+  unfolding isNumber foundOption heardAt storeAfterNotice lossAt handedAt
   step-circuit k h = go (numberFrom (listed cs) k 0) refl
     where
-      go : (o : Option ℕ) → numberFrom (listed cs) k 0 ≡ o → Step (isNumber n o) cs n r store p (heard r store p)
+      go : (o : Option ℕ) → numberFrom (listed cs) k 0 ≡ o → Step (isNumber n o) cs n r store p (passed r store p)
       go none e =
           let found : none ≡ numberFrom (listed (r .circuits)) k 0 = rw (s .circuits) (sym e) in
-          rw (heard-elsewhere r store p (malformed p) refl (h .right) (address p) refl (h .plain) k (sym (h .circuit)) Nowhere found refl)
+          rw (passed-leaves r store p _
+          (heard-elsewhere (r .slots) p (r .circuits) (malformed p) refl (h .right) (address p) refl (h .plain) k (sym (h .circuit)) Nowhere found refl))
           (record { told = record { loss = refl; slot = refl; written = refl; handed = refl }; ready = s })
       go (some c) e =
           let found : some c ≡ numberFrom (listed (r .circuits)) k 0 = rw (s .circuits) (sym e) in
-          let is : heard r store p ≡ heardAt c r store p =
-          heard-circuit r store p (malformed p) refl (h .right) (address p) refl (h .plain) k (sym (h .circuit)) (At c) found c refl in
-          let range : slotInRange (slotAt r c) ≡ true = found-slot r (s .range) (At c) k c found refl .1 in
+          let is : passed r store p ≡ leaves (heardAt c (r .slots) p) r store p =
+          passed-leaves r store p _
+          (heard-circuit (r .slots) p (r .circuits) (malformed p) refl (h .right) (address p) refl (h .plain) k (sym (h .circuit)) (At c) found c refl) in
+          let (few, slots) = before-hearing r p (s .range) in
+          let range : slotInRange (slotAt (r .slots) c) ≡ true = found-slot (r .circuits) (r .slots) slots few (At c) k c found refl .1 in
           record {
             told = rw is (heardAt-any n r store p (h .right) c range (omega (arith, s .places)));
             ready = record {
               circuits = rw is (s .circuits);
-              places = rw is (length-set (r .slots) c (slotAfter (fateOf (slotAt r c) p) (slotAt r c) p) ∙ s .places);
-              range = heard-in-range r store p (h .bytes) (s .range);
+              places = rw is (length-set (r .slots) c (slotAfter (fateOf (slotAt (r .slots) c) p) (slotAt (r .slots) c) p) ∙ s .places);
+              range = passed-in-range r store p (h .bytes) (s .range);
             };
           }
 
   -- a system packet writes behind all regions
-  step-system : (e c : ℕ) (v : List ℕ) → p ≡ systemPacket e c v → e ≤ 15 → c ≤ 8 → length v ≤ 15 → Step false cs n r store p (heard r store p)
-  unfolding systemHeard lossAt handedAt region systemPlace
+  step-system : (e c : ℕ) (v : List ℕ) → p ≡ systemPacket e c v → e ≤ 15 → c ≤ 8 → length v ≤ 15 → Step false cs n r store p (passed r store p)
+  unfolding systemHeard storeAfterNotice lossAt handedAt region systemPlace
   step-system e c v is e-le c-le short =
       let right : malformed p ≡ false = rw is (system-malformed e c v e-le c-le short) in
       let there : address p ≡ 0xff = rw is (system-address e c v) in
-      rw (heard-system r store p (malformed p) refl right (address p) refl there)
+      rw (passed-leaves r store p _ (heard-system (r .slots) p (r .circuits) (malformed p) refl right (address p) refl there))
       (record {
-        told = record { loss = refl; slot = refl; written = area-behind n store 16384 (information p) (omega arith); handed = refl };
+        told = record { loss = refl; slot = refl; written = area-behind n store systemPlace (information p) (omega arith); handed = refl };
         ready = s;
       })
 
@@ -352,15 +376,15 @@ made-packet k c right m =
 -- ---- frames
 
 -- what a packet tells, and then what others tell
-module _ (n : ℕ) (r : Receiver) (store p : List ℕ) (h : Heard) (ps : List (List ℕ)) where
-  losses-then : (b : Bool) (later : ℕ) → OwnIf b n r store p h → later ≡ lossesHeard (slotAt (h .receiver) n) ps
-      → lossAt n (h .notice) + later ≡ lossesHeard (slotAt r n) (cond b (p ∷ []) [] ++ ps)
+module _ (n : ℕ) (r : Receiver) (store p : List ℕ) (h : Noticed) (ps : List (List ℕ)) where
+  losses-then : (b : Bool) (later : ℕ) → OwnIf b n r store p h → later ≡ lossesHeard (slotAt (h .receiver .slots) n) ps
+      → lossAt n (h .notice) + later ≡ lossesHeard (slotAt (r .slots) n) (cond b (p ∷ []) [] ++ ps)
   unfolding lossesHeard
   losses-then true later t e = rw (t .loss, e, t .slot)
   losses-then false later t e = rw (t .loss, e, t .slot, zero-add)
 
-  handed-then : (b : Bool) (later : List (List ℕ)) → OwnIf b n r store p h → later ≡ handedHeard (slotAt (h .receiver) n) (area n (h .store)) ps
-      → handedAt n (h .notice) (h .store) ++ later ≡ handedHeard (slotAt r n) (area n store) (cond b (p ∷ []) [] ++ ps)
+  handed-then : (b : Bool) (later : List (List ℕ)) → OwnIf b n r store p h → later ≡ handedHeard (slotAt (h .receiver .slots) n) (area n (h .store)) ps
+      → handedAt n (h .notice) (h .store) ++ later ≡ handedHeard (slotAt (r .slots) n) (area n store) (cond b (p ∷ []) [] ++ ps)
   unfolding handedHeard
   handed-then true later t e = rw (t .handed, e, t .slot, t .written)
   handed-then false later t e = rw (t .handed, e, t .slot, t .written)
@@ -368,7 +392,7 @@ module _ (n : ℕ) (r : Receiver) (store p : List ℕ) (h : Heard) (ps : List (L
 -- circuit k has number n among the circuits cs
 module _ (cs : Circuits) (n : ℕ) (n-lt : n < 4) (k : Circuit) (is : (d : Circuit) → isNumber n (numberFrom (listed cs) d 0) ≡ alike k d) where
   -- a frame's packet tells of circuit n if it is one of circuit k
-  step-made : (w : Option Placed) (r : Receiver) (store p : List ℕ) → MadeBy w p → Ready cs r → Step (isOf k w) cs n r store p (heard r store p)
+  step-made : (w : Option Placed) (r : Receiver) (store p : List ℕ) → MadeBy w p → Ready cs r → Step (isOf k w) cs n r store p (passed r store p)
   unfolding MadeBy isOf
   step-made none r store p m s = step-system cs n n-lt r store p s (m .enable) (m .code) (m .information) (m .is) (m .enable-le) (m .code-le) (m .short)
   step-made (some q) r store p m s =
@@ -376,12 +400,12 @@ module _ (cs : Circuits) (n : ℕ) (n-lt : n < 4) (k : Circuit) (is : (d : Circu
 
   -- what the packets of frames tell of circuit n
   heard-frames : (fs : List Frame) (r : Receiver) (store : List ℕ) → AllMade fs → Ready cs r
-      → (lossesAt n (toldByPackets r store (map (λ (f : Frame). f .packet) fs)) ≡ lossesHeard (slotAt r n) (packetsAt k fs))
-      × (handedOver n (toldByPackets r store (map (λ (f : Frame). f .packet) fs)) ≡ handedHeard (slotAt r n) (area n store) (packetsAt k fs))
-  unfolding EachIs toldByPackets packetsAt lossesAt handedOver lossesHeard handedHeard
+      → (lossesAt n (toldByPackets r store (map (λ (f : Frame). f .packet) fs)) ≡ lossesHeard (slotAt (r .slots) n) (packetsAt k fs))
+      × (handedOver n (toldByPackets r store (map (λ (f : Frame). f .packet) fs)) ≡ handedHeard (slotAt (r .slots) n) (area n store) (packetsAt k fs))
+  unfolding AllAre toldByPackets packetsAt lossesAt handedOver lossesHeard handedHeard
   heard-frames [] r store m s = (refl, refl)
   heard-frames (f ∷ fs) r store m s =
-      let h : Heard = heard r store (f .packet) in
+      let h : Noticed = passed r store (f .packet) in
       let step = step-made (f .whose) r store (f .packet) (m .0) s in
       let (losses, handed) = heard-frames fs (h .receiver) (h .store) (m .1) (step .ready) in (
         losses-then n r store (f .packet) h (packetsAt k fs) (isOf k (f .whose)) _ (step .told) losses,
@@ -405,7 +429,7 @@ module _ (list : List ℕ) (accepted : listRefusal list ≡ 0) (n : ℕ) (there 
       let apart : twoAlike (circuitsOf list) ≡ false = rw same at (circuitsRefusal-zero (listed (listing list)) (listing-refusal list) .2) in
       rw same (rw zero-add at (isNumber-alike (circuitsOf list) d 0 n apart there))
 
-  slotAt-fresh : slotAt (fresh (listing list)) n ≡ freshSlot
+  slotAt-fresh : slotAt (fresh (listing list) .slots) n ≡ freshSlot
   unfolding slotAt fresh
   slotAt-fresh = getD-replicate 4 n freshSlot freshSlot number-lt
 

@@ -16,15 +16,16 @@ use Rattle.bits.proofs.Tests.{and-left, and-right}
 use Rattle.hdlc.specs.Frames.{flag, withFcs, frame}
 use Rattle.hdlc.specs.Bodies.{Body, bodies, passes, void, judge}
 use Rattle.hdlc.proofs.Ending.{length-flag}
+use Rattle.packet.specs.Lists.{anyOf, allOf, those, AllAre}
 use Rattle.framing.specs.declared.Framing.{Framing}
 use Rattle.framing.specs.Machine.{fresh, run}
 use Rattle.framing.specs.Closings.{Closing, closingOf, notVoid, closings}
 use Rattle.framing.proofs.Runs.{closings-append}
 use Rattle.framing.proofs.FramesPass.{frame-passes}
 use Rattle.framing.proofs.FramingFindsBodies.{framing-finds-bodies}
-use Rattle.link.specs.Demand3.{anyOf, allOf, those, Frame, frameLength, Piece, originals, Bit, resulting, values, beginWith, cameWhole}
+use Rattle.link.specs.Demand3.{Frame, frameLength, Piece, originals, Bit, resulting, values, beginWith, cameWhole}
 use Rattle.link.specs.Demand3.{isPassed, isFrame, noOtherPasses}
-use Rattle.link.proofs.Steps.{EachIs, given, LaidAt, Laid, Ascending}
+use Rattle.link.proofs.Steps.{given, LaidAt, Laid, Ascending}
 use Rattle.link.proofs.ResultingBits.{Numbered, Numbered-resulting, row-values, together-row}
 use Rattle.link.proofs.SamePackets.{Later-closings, frameLength-pos, Ends, EachFramed, EachGiven, same-packets}
 
@@ -118,7 +119,7 @@ module _ (p : List ℕ) (bytes : Bytes p) (least : 2 ≤ length p) (most : lengt
 
 -- each of the frames that lie in bits
 Laid-each : (fs : List Frame) (joined : List Bool) (f : Frame) → Laid joined fs → List·Memᴰ f fs → LaidAt joined f
-unfolding EachIs
+unfolding AllAre
 Laid-each (g ∷ fs) joined f h (List·Memᴰ·head e) = rw e (h .0)
 Laid-each (g ∷ fs) joined f h (List·Memᴰ·tail m) = Laid-each fs joined f (h .1) m
 

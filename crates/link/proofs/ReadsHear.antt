@@ -13,26 +13,26 @@ use Rattle.packet.specs.Circuits.{listing}
 use Rattle.framing.specs.Machine.{fresh as freshFraming}
 use Rattle.framing.specs.Closings.{Closing, closings}
 use Rattle.receiver.specs.declared.Receiver.{Receiver}
-use Rattle.receiver.specs.declared.Notice.{Notice}
-use Rattle.receiver.specs.declared.Notice.the-variants.{End as EndNotice, Spoilt, Malformed, System as SystemNotice, Elsewhere, Circuit as CircuitNotice}
-use Rattle.receiver.specs.Record.{storeLength, fresh, inRange}
-use Rattle.receiver.specs.Notices.{heard}
-use Rattle.receiver.specs.Reading.{readRefusal, bitsRead}
-use Rattle.receiver.specs.Reads.{ReadCall, ReceiverEnd, freshReceiverEnd, afterRead, bitsOfRead, bitsOfReads, Told, toldByReads, toldByJudged, isEnd, notEnd}
+use Rattle.notices.specs.declared.Notice.{Notice}
+use Rattle.notices.specs.declared.Notice.the-variants.{End as EndNotice, Spoilt, Malformed, System as SystemNotice, Elsewhere, Circuit as CircuitNotice}
+use Rattle.notices.specs.Stores.{storeLength}
+use Rattle.receiver.specs.Record.{fresh, inRange}
+use Rattle.receiver.specs.Reading.{passed, readRefusal, bitsRead}
+use Rattle.receiver.specs.Reads.{ReadCall, ReceiverEnd, freshReceiverEnd, afterRead, bitsOfRead, bitsOfReads, Report, toldByReads, toldByJudged, isEnd, notEnd}
 use Rattle.receiver.proofs.ReadingCalls.{length-storeAfterRead}
 use Rattle.receiver.proofs.ReadsTell.{gives, reads-tell}
 use Rattle.link.specs.Demand3.{lossAt, lossesAt, handedAt, handedOver}
-use Rattle.link.proofs.Steps.{givenBy, given, toldByPackets}
+use Rattle.link.proofs.Steps.{packetGiven, given, toldByPackets}
 
 -- what is made of what is told, one by one, and does not count End and Spoilt
-record Counts {A : Type 0} (all : List Told → A) : Type 0 where
-  more : (t : Told) (ts us : List Told) → all ts ≡ all us → all (t ∷ ts) ≡ all (t ∷ us)
-  ends : (store : List ℕ) (ts : List Told) → all (record { notice = EndNotice; store = store } ∷ ts) ≡ all ts
-  spoils : (store : List ℕ) (ts : List Told) → all (record { notice = Spoilt; store = store } ∷ ts) ≡ all ts
+record Counts {A : Type 0} (all : List Report → A) : Type 0 where
+  more : (t : Report) (ts us : List Report) → all ts ≡ all us → all (t ∷ ts) ≡ all (t ∷ us)
+  ends : (store : List ℕ) (ts : List Report) → all (record { notice = EndNotice; store = store } ∷ ts) ≡ all ts
+  spoils : (store : List ℕ) (ts : List Report) → all (record { notice = Spoilt; store = store } ∷ ts) ≡ all ts
 
-module _ {A : Type 0} {all : List Told → A} (counts : Counts all) where
+module _ {A : Type 0} {all : List Report → A} (counts : Counts all) where
   -- so it is the same of what is told but End
-  end-uncounted : (n : Notice) (store : List ℕ) (ts us : List Told) → all ts ≡ all us
+  end-uncounted : (n : Notice) (store : List ℕ) (ts us : List Report) → all ts ≡ all us
       → all (record { notice = n; store = store } ∷ ts) ≡ all (cond (isEnd n) us (record { notice = n; store = store } ∷ us))
   unfolding isEnd
   end-uncounted EndNotice store ts us later = counts .ends store ts ∙ later
@@ -42,7 +42,7 @@ module _ {A : Type 0} {all : List Told → A} (counts : Counts all) where
   end-uncounted Elsewhere store ts us later = counts .more _ ts us later
   end-uncounted (CircuitNotice c loss fate) store ts us later = counts .more _ ts us later
 
-  notEnd-counts : (ts : List Told) → all ts ≡ all (notEnd ts)
+  notEnd-counts : (ts : List Report) → all ts ≡ all (notEnd ts)
   unfolding notEnd
   notEnd-counts [] = refl
   notEnd-counts (t ∷ ts) = end-uncounted (t .notice) (t .store) ts (notEnd ts) (notEnd-counts ts)
@@ -50,9 +50,9 @@ module _ {A : Type 0} {all : List Told → A} (counts : Counts all) where
   -- and of what the packets tell that bodies give
   judged-counts : (j : Judged) (js : List Judged) (ps : List (List ℕ))
       → ((r : Receiver) (store : List ℕ) → all (toldByJudged r store js) ≡ all (toldByPackets r store ps))
-      → (r : Receiver) (store : List ℕ) → all (toldByJudged r store (j ∷ js)) ≡ all (toldByPackets r store (givenBy j ++ ps))
-  unfolding toldByJudged toldByPackets givenBy
-  judged-counts (passes p) js ps later = λ r store. counts .more _ _ _ (later (heard r store p .receiver) (heard r store p .store))
+      → (r : Receiver) (store : List ℕ) → all (toldByJudged r store (j ∷ js)) ≡ all (toldByPackets r store (packetGiven j ++ ps))
+  unfolding toldByJudged toldByPackets packetGiven
+  judged-counts (passes p) js ps later = λ r store. counts .more _ _ _ (later (passed r store p .receiver) (passed r store p .store))
   judged-counts spoilt js ps later = λ r store. counts .spoils store (toldByJudged r store js) ∙ later r store
   judged-counts nothing js ps later = later
 

@@ -9,21 +9,24 @@ use lib.Dec.{leb, eqb, eqb·suc-zero}
 use lib.ListN.{length, take, replicate}
 use Rattle.bits.proofs.Tests.{and-left, and-right}
 use Rattle.packet.specs.declared.Circuit.{Circuit}
-use Rattle.packet.specs.Messages.{header, partFrom, packets}
+use Rattle.packet.specs.Messages.{longest, header, partFrom, packets}
 use Rattle.packet.specs.Messages.{segment as segmentOf}
-use Rattle.packet.proofs.Segments.{length-header}
-use Rattle.queues.specs.Queues.{copyOf}
+use Rattle.packet.specs.Lists.{those}
+use Rattle.packet.proofs.Segments.{length-header, linkOf-lt}
+use Rattle.queues.specs.Queues.{copyOf, Message}
 use Rattle.queues.specs.Sent.{Sent}
-use Rattle.queues.proofs.IndexCounts.{indexIn-copyOf, packetsFrom}
-use Rattle.receiver.specs.declared.Slot.{Slot}
-use Rattle.receiver.specs.Record.{region, freshSlot, open-message}
-use Rattle.receiver.specs.Packets.{index}
-use Rattle.receiver.specs.Notices.{isCopy, lossOf, stillOpen, closedSlot}
-use Rattle.link.specs.Demand3.{those, allFrom, atMostSixLost}
-use Rattle.link.proofs.Steps.{RightCircuit, handedHeard, Offer, packetsOf, sentPackets, Offered, ThinnedBy, Thinned, cameOf}
+use Rattle.queues.proofs.AtCircuit.{Offered}
+use Rattle.queues.proofs.IndexCounts.{index-copyOf, packetsFrom, packetsOf, sentPackets}
+use Rattle.notices.specs.declared.Slot.{Slot}
+use Rattle.packet.specs.Stores.{region}
+use Rattle.notices.specs.Slots.{freshSlot, open-message}
+use Rattle.parsing.specs.Packets.{index}
+use Rattle.notices.specs.Fates.{isCopy, lossOf, stillOpen, closedSlot}
+use Rattle.link.specs.Demand3.{allFrom, atMostSixLost}
+use Rattle.link.proofs.Steps.{RightCircuit, handedHeard, ThinnedBy, Thinned, cameOf}
 use Rattle.link.proofs.Gaps.{gaps, gaps-given}
-use Rattle.link.proofs.MadePackets.{linkOf-lt, link-made, segment-made}
-use Rattle.link.proofs.Losses.{index-in, isCopy-next, lossOf-next}
+use Rattle.link.proofs.MadePackets.{link-made, segment-made}
+use Rattle.link.proofs.Losses.{isCopy-next, lossOf-next}
 use Rattle.link.proofs.MessageParts.{Carries, Due, heldSlot, withPart, length-withPart, heard-end, heard-more, written-more, heard-orphan}
 
 -- ---- between two packets of a circuit, where the next has number i
@@ -99,8 +102,8 @@ unfolding packets
 some-packet n = omega (arith, length-header n)
 
 -- a message that is picked or not, before others
-pick : (b : Bool) (o : Offer) (os : List Offer)
-    → cond b (o .text ∷ []) [] ++ map (λ (o : Offer). o .text) os ≡ map (λ (o : Offer). o .text) (cond b (o ∷ []) [] ++ os)
+pick : (b : Bool) (o : Message) (os : List Message)
+    → cond b (o .text ∷ []) [] ++ map (λ (o : Message). o .text) os ≡ map (λ (o : Message). o .text) (cond b (o ∷ []) [] ++ os)
 pick true o os = refl
 pick false o os = refl
 
@@ -156,7 +159,7 @@ module _ (comes : ℕ → Bool) where
 
   -- ---- the packets of one message, and then the rest
 
-  module _ (k : Circuit) (right : RightCircuit k) (o : Offer) (few : o .priority ≤ 3) (short : length (o .text) ≤ 4094)
+  module _ (k : Circuit) (right : RightCircuit k) (o : Message) (few : o .priority ≤ 3) (short : length (o .text) ≤ 4094)
       (ps : List Sent) (end : ℕ) (behind : end ≡ o .first + packets (length (o .text))) (out : List (List ℕ)) (later : Rest ps end out) where
     -- number i of the circuit's packets, part j of the message; and the m from there on
     sent : ℕ → ℕ → Sent
@@ -172,7 +175,7 @@ module _ (comes : ℕ → Bool) where
     module _ (i j : ℕ) where
       index-packet : index (packet i j) ≡ i % 8
       unfolding packet sent
-      index-packet = index-in (packet i j) ∙ indexIn-copyOf k (o .priority) (o .text) i j few
+      index-packet = index-copyOf k (o .priority) (o .text) i j few
 
       carries : j < packets (length (o .text)) → Carries (o .text) j (packet i j)
       unfolding packet sent copyOf
@@ -246,27 +249,27 @@ module _ (comes : ℕ → Bool) where
   -- ---- all messages
 
   -- whether every packet of a message came
-  complete : Offer → Bool
+  complete : Message → Bool
   complete o = allFrom comes (o .first) (packets (length (o .text)))
 
   -- however the circuit was left before these messages
-  offers : (os : List Offer) (k : Circuit) (i : ℕ) → RightCircuit k → Offered i os
-      → Rest (sentPackets k os) i (map (λ (o : Offer). o .text) (those complete os))
-  unfolding Offered packetsOf sentPackets those handedHeard Thinned complete
+  offers : (os : List Message) (k : Circuit) (i : ℕ) → RightCircuit k → Offered k i os
+      → Rest (sentPackets os) i (map (λ (o : Message). o .text) (those complete os))
+  unfolding Offered packetsOf sentPackets those handedHeard Thinned complete longest
   offers [] k i right h t area d heard now = rw (now .thinned)
   offers (o ∷ os) k i right h t area d heard now =
-      let (first, few, short, bytes, more) = h in
+      let (here, first, few, short, more) = h in
       let n = packets (length (o .text)) in
-      ready k right o few short (sentPackets k os) (i + n) (rw first) (map (λ (o : Offer). o .text) (those complete os)) (offers os k (i + n) right more)
+      ready (o .circuit) (rw here right) o few short (sentPackets os) (i + n) (rw first) (map (λ (o : Message). o .text) (those complete os)) (offers os k (i + n) right more)
       n 0 (o .first) (omega arith) (omega arith) (some-packet (length (o .text))) t area d heard (rw (← first) at now) (ready-first (o .text) t area d)
       ∙ pick (complete o) o (those complete os)
 
 -- "The messages handed over there are exactly those sent there of which every packet came in some copy, each once, in sending order"
-pub handed-thinned : (comes : ℕ → Bool) (k : Circuit) → RightCircuit k → (os : List Offer) → Offered 0 os → (area : List ℕ) → length area ≡ region
-    → (heard : List (List ℕ)) → Thinned comes (sentPackets k os) heard
-    → atMostSixLost (cameOf comes (sentPackets k os)) ≡ true
-    → handedHeard freshSlot area heard ≡ map (λ (o : Offer). o .text) (those (λ (o : Offer). allFrom comes (o .first) (packets (length (o .text)))) os)
+pub handed-thinned : (comes : ℕ → Bool) (k : Circuit) → RightCircuit k → (os : List Message) → Offered k 0 os → (area : List ℕ) → length area ≡ region
+    → (heard : List (List ℕ)) → Thinned comes (sentPackets os) heard
+    → atMostSixLost (cameOf comes (sentPackets os)) ≡ true
+    → handedHeard freshSlot area heard ≡ map (λ (o : Message). o .text) (those (λ (o : Message). allFrom comes (o .first) (packets (length (o .text)))) os)
 unfolding KnownBy freshSlot open-message complete
 handed-thinned comes k right os offered area room heard thinned few =
     offers comes os k 0 right offered freshSlot area 0 heard
-    (record { room = room; known = refl; few = gaps-given (cameOf comes (sentPackets k os)) few; thinned = thinned })
+    (record { room = room; known = refl; few = gaps-given (cameOf comes (sentPackets os)) few; thinned = thinned })

@@ -13,10 +13,12 @@ use Rattle.bits.specs.Bits.{odd, lowBits, byteBits}
 use Rattle.hdlc.specs.Frames.{flag}
 use Rattle.hdlc.proofs.NoSix.{NoSix}
 use Rattle.hdlc.proofs.Ending.{length-flag}
-use Rattle.queues.specs.Calls.{TakenBlock, bitsOfBlock}
-use Rattle.link.specs.Demand3.{anyOf, Piece, kept, replaced, Frame, frameLength, framesInBlocks, originals}
+use Rattle.packet.specs.Lists.{anyOf}
+use Rattle.queues.specs.Effects.{TakenBlock, bitsOfBlock}
+use Rattle.link.specs.Demand3.{Piece, kept, replaced, Frame, frameLength, framesInBlocks, originals}
 use Rattle.link.specs.Demand3.{Bit, keptBits, newBit, resulting, values, isNumber, beginWith, noOtherPasses}
 use Rattle.link.specs.Channels.{droppedPieces, OnesOnly}
+use Rattle.link.proofs.ResultingBits.{keptBits-append}
 use Rattle.link.proofs.BodiesOfBlocks.{isAt, OwnAt, Own, own-passes}
 use Rattle.link.proofs.DroppedBlocks.{values-kept, own-one, own-dropped}
 
@@ -162,13 +164,6 @@ module _ (fs : List Frame) where
       right-ones (length new) old new n _ _ (ones .0) (ones .1) (right-pieces pieces (n + length old) (ones .2))
 
 -- blocks that come as they were sent
-keptBits-append : (a b : List Bool) (n : ℕ) → keptBits n (a ++ b) ≡ keptBits n a ++ keptBits (n + length a) b
-unfolding keptBits
-keptBits-append [] b n = let e : n + 0 ≡ n = omega arith in rw e
-keptBits-append (x ∷ a) b n =
-    let e : n + suc (length a) ≡ suc n + length a = omega arith in
-    rw e (ap (λ (r : List Bit). record { number = some n; value = x } ∷ r) (keptBits-append a b (suc n)))
-
 resulting-kept : (bs : List TakenBlock) (n : ℕ) → resulting n (droppedPieces [] bs) ≡ keptBits n (flatten (map bitsOfBlock bs))
 unfolding resulting droppedPieces keptBits flatten
 resulting-kept [] n = refl

@@ -91,6 +91,14 @@ row-values (suc i) k a {n} over e = begin-values k a {n = n} over e
 row-values (suc i) k a (foreign new later) e = row-values i k a later e
 row-values (suc i) k a (own m at is value later) e = row-values i k a later e
 
+-- kept bits joined
+pub keptBits-append : (a b : List Bool) (n : ℕ) → keptBits n (a ++ b) ≡ keptBits n a ++ keptBits (n + length a) b
+unfolding keptBits
+keptBits-append [] b n = let e : n + 0 ≡ n = omega arith in rw e
+keptBits-append (x ∷ a) b n =
+    let e : n + suc (length a) ≡ suc n + length a = omega arith in
+    rw e (ap (λ (r : List Bit). record { number = some n; value = x } ∷ r) (keptBits-append a b (suc n)))
+
 -- bits that were kept begin with a row
 pub begins-kept : (k n : ℕ) (bs : List Bool) (bits : List Bit) → k ≤ length bs → beginWith n k (keptBits n bs ++ bits) ≡ true
 unfolding beginWith keptBits isNumber

@@ -10,11 +10,12 @@ use mathlib.Core.Path.{_≡_, refl, sym, ap, _∙_}
 use lib.ListN.{length-append}
 use Rattle.hdlc.specs.Bodies.{Judged, passes, spoilt, nothing}
 use Rattle.hdlc.proofs.Ending.{length-flag}
+use Rattle.packet.specs.Lists.{those}
 use Rattle.framing.specs.declared.Framing.{Framing}
 use Rattle.framing.specs.Machine.{step, closes}
 use Rattle.framing.specs.Closings.{Closing, closed, closings}
-use Rattle.link.specs.Demand3.{those, Frame, frameLength, Bit, cameWhole}
-use Rattle.link.proofs.Steps.{givenBy, given, Ascending}
+use Rattle.link.specs.Demand3.{Frame, frameLength, Bit, cameWhole}
+use Rattle.link.proofs.Steps.{packetGiven, given, Ascending}
 use Rattle.link.proofs.ResultingBits.{Numbered, row-together, Row, rows-same, rows-in-order}
 
 -- ---- lists
@@ -168,7 +169,7 @@ module _ (joined : List Bool) (bits : List Bit) (numbered : Numbered joined 0 bi
 
   -- whatever the first body gives
   pub same-packets : (cs : List Closing) (m : ℕ) → Later m cs → SameIfEach bits cs
-  unfolding given givenBy Later
+  unfolding given packetGiven Later
   same-packets [] m later fs n up framed givens =
       sym (ap (map (λ (f : Frame). f .packet)) (those-none (cameWhole bits) fs (λ f m w. List·Memᴰ·not-nil (givens f m w .1))))
   same-packets (c ∷ cs) m later fs n up framed givens = go (c .gives) refl (same-packets cs (c .read) (later .1))
@@ -178,7 +179,7 @@ module _ (joined : List Bool) (bits : List Bit) (numbered : Numbered joined 0 bi
           behind fs n up (λ d q m. framed d q (List·Memᴰ·tail m))
           (λ f m w. other (Gives bits f) c cs (givens f m w) (λ h. never (f .packet) (h .packet)))
 
-      go : (j : Judged) → c .gives ≡ j → SameIfEach bits cs → givenBy j ++ given cs ≡ map (λ (f : Frame). f .packet) (those (cameWhole bits) fs)
+      go : (j : Judged) → c .gives ≡ j → SameIfEach bits cs → packetGiven j ++ given cs ≡ map (λ (f : Frame). f .packet) (those (cameWhole bits) fs)
       go (passes p) e behind = same-first fs c cs p n e (later .1) behind up framed givens
       go spoilt e behind = skip (λ p q. let z : _≡_ {A = ℕ} 0 1 = cc in omega arith) behind
       go nothing e behind = skip (λ p q. let z : _≡_ {A = ℕ} 0 1 = cc in omega arith) behind

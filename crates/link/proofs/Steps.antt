@@ -10,47 +10,37 @@ use Rattle.hdlc.specs.Frames.{flag, frame}
 use Rattle.hdlc.specs.Bodies.{Judged, passes, spoilt, nothing}
 use Rattle.packet.specs.declared.Circuit.{Circuit}
 use Rattle.packet.specs.Circuits.{alike}
-use Rattle.packet.specs.Messages.{packets}
+use Rattle.packet.specs.Messages.{longest, packets}
 use Rattle.packet.specs.Packets.{systemPacket}
+use Rattle.packet.specs.Lists.{AllAre}
 use Rattle.framing.specs.Closings.{Closing}
 use Rattle.queues.specs.Queues.{Copy, copyOf, Placed}
 use Rattle.queues.specs.Sent.{Sent}
-use Rattle.queues.proofs.IndexCounts.{packetsFrom}
-use Rattle.receiver.specs.declared.Slot.{Slot}
+use Rattle.notices.specs.declared.Slot.{Slot}
 use Rattle.receiver.specs.declared.Receiver.{Receiver}
-use Rattle.receiver.specs.Notices.{Heard, heard, isCopy, lossOf, fateOf, slotAfter, storeAfter}
-use Rattle.receiver.specs.Reads.{Told}
-use Rattle.link.specs.Demand3.{Frame, frameLength, Message, handedFrom}
-
--- ---- lists
-
--- each of a list is so
-unfoldable pub EachIs : {A : Type 0} → (A → Type 0) → List A → Type 0
-EachIs P [] = Unit {0}
-EachIs P (x ∷ xs) = P x × EachIs P xs
-
-pub EachIs-append : {A : Type 0} (P : A → Type 0) (a b : List A) → EachIs P a → EachIs P b → EachIs P (a ++ b)
-unfolding EachIs
-EachIs-append P [] b h g = g
-EachIs-append P (x ∷ a) b h g = (h .0, EachIs-append P a b (h .1) g)
+use Rattle.receiver.specs.Reading.{Noticed, passed}
+use Rattle.notices.specs.Fates.{isCopy, lossOf, fateOf, slotAfter}
+use Rattle.notices.specs.Stores.{storeAfterFate}
+use Rattle.receiver.specs.Reads.{Report}
+use Rattle.link.specs.Demand3.{Frame, frameLength, InBlock, handedFrom}
 
 -- ---- packets that pass
 
 -- the packets that closed bodies give, in order
-unfoldable pub givenBy : Judged → List (List ℕ)
-givenBy (passes packet) = packet ∷ []
-givenBy spoilt = []
-givenBy nothing = []
+unfoldable pub packetGiven : Judged → List (List ℕ)
+packetGiven (passes packet) = packet ∷ []
+packetGiven spoilt = []
+packetGiven nothing = []
 
 unfoldable pub given : List Closing → List (List ℕ)
 given [] = []
-given (c ∷ cs) = givenBy (c .gives) ++ given cs
+given (c ∷ cs) = packetGiven (c .gives) ++ given cs
 
 -- what packets tell, one after another
-unfoldable pub toldByPackets : Receiver → List ℕ → List (List ℕ) → List Told
+unfoldable pub toldByPackets : Receiver → List ℕ → List (List ℕ) → List Report
 toldByPackets r store [] = []
 toldByPackets r store (p ∷ ps) =
-    let h : Heard = heard r store p in
+    let h : Noticed = passed r store p in
     record { notice = h .notice; store = h .store } ∷ toldByPackets (h .receiver) (h .store) ps
 
 -- ---- frames in the joined bits
@@ -63,7 +53,11 @@ pub record LaidAt (bits : List Bool) (f : Frame) : Type 0 where
   pub there : take (frameLength f) (drop (f .from) bits) ≡ flag ++ frame (f .packet) ++ flag
 
 abbrev pub Laid : List Bool → List Frame → Type 0
-Laid bits fs = EachIs (LaidAt bits) fs
+Laid bits fs = AllAre (LaidAt bits) fs
+
+-- the packets alone of those in a block
+abbrev pub alone : List InBlock → List (List ℕ)
+alone xs = map (λ (x : InBlock). x .packet) xs
 
 -- each ends behind number n and behind the one before it
 unfoldable pub Ascending : ℕ → List Frame → Type 0
@@ -85,7 +79,7 @@ pub record Made (k : Circuit) (c : Copy) : Type 0 where
   pub part : ℕ
   pub is : c ≡ copyOf k (c .priority) text (c .number) part
   pub few : c .priority ≤ 3
-  pub short : length text ≤ 4094
+  pub short : length text ≤ longest
   pub bytes : Bytes text
   pub inside : part < packets (length text)
 
@@ -104,11 +98,8 @@ unfoldable pub MadeBy : Option Placed → List ℕ → Type 0
 MadeBy none packet = MadeSystem packet
 MadeBy (some q) packet = (packet ≡ q .copy .packet) × RightCircuit (q .circuit) × Made (q .circuit) (q .copy)
 
-abbrev pub MadeIn : Frame → Type 0
-MadeIn f = MadeBy (f .whose) (f .packet)
-
 abbrev pub AllMade : List Frame → Type 0
-AllMade fs = EachIs MadeIn fs
+AllMade fs = AllAre (λ (f : Frame). MadeBy (f .whose) (f .packet)) fs
 
 -- ---- one circuit
 
@@ -129,34 +120,10 @@ lossesHeard t (p ∷ ps) = cond (isCopy t p) 0 (lossOf t p) + lossesHeard (slotA
 unfoldable pub handedHeard : Slot → List ℕ → List (List ℕ) → List (List ℕ)
 handedHeard t area [] = []
 handedHeard t area (p ∷ ps) =
-    let after = storeAfter (fateOf t p) 0 t p area in
+    let after = storeAfterFate (fateOf t p) 0 t p area in
     handedFrom (fateOf t p) 0 after ++ handedHeard (slotAfter (fateOf t p) t p) after ps
 
--- ---- what was sent at one circuit
-
--- an accepted offer
-pub record Offer : Type 0 where
-  pub text : List ℕ
-  pub first : ℕ
-  pub priority : ℕ
-  pub repetition : ℕ
-
-unfoldable pub messageOf : Offer → Message
-messageOf o = record { text = o .text; first = o .first }
-
--- the packets of offers
-unfoldable pub packetsOf : Circuit → Offer → List Sent
-packetsOf k o = packetsFrom k (o .priority) (o .text) (o .repetition) (o .first) 0 (packets (length (o .text)))
-
-unfoldable pub sentPackets : Circuit → List Offer → List Sent
-sentPackets k [] = []
-sentPackets k (o ∷ os) = packetsOf k o ++ sentPackets k os
-
--- the offers are right, and their packets are counted from n on
-unfoldable pub Offered : ℕ → List Offer → Type 0
-Offered n [] = Unit {0}
-Offered n (o ∷ os) =
-    (o .first ≡ n) × (o .priority ≤ 3) × (length (o .text) ≤ 4094) × Bytes (o .text) × Offered (n + packets (length (o .text))) os
+-- ---- what came of one circuit
 
 -- of the packets sent, those that came are heard once or more, the others not at all
 unfoldable pub ThinnedBy : Bool → List ℕ → (List (List ℕ) → Type 0) → List (List ℕ) → Type 0

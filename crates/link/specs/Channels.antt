@@ -6,12 +6,15 @@ use mathlib.Core.List.{List, [], _∷_}
 use mathlib.Core.Path.{_≡_}
 use lib.ListN.{length, replicate}
 use Rattle.packet.specs.declared.Circuit.{Circuit}
-use Rattle.queues.specs.Calls.{TakenBlock, bitsOfBlock}
-use Rattle.link.specs.Demand3.{anyOf, Piece, kept, replaced, Pass, joinedBits, frames, isCopyOf}
+use Rattle.packet.specs.Lists.{anyOf}
+use Rattle.queues.specs.Effects.{TakenBlock, bitsOfBlock}
+use Rattle.link.specs.Demand3.{Piece, kept, replaced, Pass, frames, isCopyOf}
 
--- nothing is replaced
-unfoldable pub Clean : Pass → Type 0
-Clean p = p .pieces ≡ kept (joinedBits p) ∷ []
+-- nothing is replaced: every piece is kept
+unfoldable pub Clean : List Piece → Type 0
+Clean [] = Unit {0}
+Clean (kept bits ∷ pieces) = Clean pieces
+Clean (replaced old new ∷ pieces) = ⊥
 
 -- some copy of a circuit's packet number i is in a block
 unfoldable pub isPlaced : Pass → Circuit → ℕ → Bool

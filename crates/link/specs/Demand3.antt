@@ -1,6 +1,7 @@
 -- Demand 3, one claim about whole lists of calls (document 01, "What demand 3 counts"), from top to bottom: what was sent, what became of the bits, what
 -- came, what the receiver told, what is taken as given, and the claim. The calls are those of the contracts: `Rattle.queues.specs.Calls` and
--- `Rattle.receiver.specs.Reads` have the lists of them, the records and stores between them, and the blocks and notices that they give.
+-- `Rattle.receiver.specs.Reads` have the lists of them, the records and stores between them, and the blocks and notices that they give;
+-- `Rattle.queues.specs.Effects` has what they send and place.
 use Prim.Native.Nat.{ℕ, zero, suc, _+_, _-_, _*_, _<_}
 use mathlib.Core.Bool.{Bool, true, false, cond, not, _&&_, _||_}
 use mathlib.Core.List.{List, [], _∷_, _++_, map, flatten}
@@ -14,30 +15,17 @@ use Rattle.hdlc.specs.Bodies.{holds, Body, bodies, Judged, passes, spoilt, noth
 use Rattle.packet.specs.declared.Circuit.{Circuit}
 use Rattle.packet.specs.Circuits.{circuitsOf, alike, listRefusal, noCircuit}
 use Rattle.packet.specs.Messages.{packets}
-use Rattle.packet.specs.Packets.{systemPacket}
-use Rattle.sender.specs.Blocks.{System, opening}
-use Rattle.queues.specs.Queues.{Copy, Queues, freshQueues, queueAt, Placed, placedBits}
-use Rattle.queues.specs.Calls.{Call, offer, block, End, freshEnd, accepted, afterCall, queuesAfterCall, blocksMade, TakenBlock, bitsOfBlock, blocksTaken}
-use Rattle.queues.specs.Sent.{placedAt, framesOf}
-use Rattle.receiver.specs.declared.Fate.{Fate}
-use Rattle.receiver.specs.declared.Fate.the-variants.{Copy as CopyFate, Begun, Held, Whole, Orphan, Wrong}
-use Rattle.receiver.specs.declared.Notice.{Notice}
-use Rattle.receiver.specs.declared.Notice.the-variants.{End as EndNotice, Spoilt, Malformed, System as SystemNotice, Elsewhere, Circuit as CircuitNotice}
-use Rattle.receiver.specs.Record.{region}
-use Rattle.receiver.specs.Reads.{ReadCall, ReceiverEnd, freshReceiverEnd, bitsOfReads, Told, toldByReads}
-
--- some of them, all of them, those of a list that pass a test
-unfoldable pub anyOf : {A : Type 0} → (A → Bool) → List A → Bool
-anyOf test [] = false
-anyOf test (x ∷ xs) = test x || anyOf test xs
-
-unfoldable pub allOf : {A : Type 0} → (A → Bool) → List A → Bool
-allOf test [] = true
-allOf test (x ∷ xs) = test x && allOf test xs
-
-unfoldable pub those : {A : Type 0} → (A → Bool) → List A → List A
-those test [] = []
-those test (x ∷ xs) = cond (test x) (x ∷ []) [] ++ those test xs
+use Rattle.packet.specs.Lists.{anyOf, allOf, those, AllAre}
+use Rattle.queues.specs.Queues.{Copy, Message, Queues, freshQueues, Placed}
+use Rattle.queues.specs.Effects.{Effect, TakenBlock, bitsOfBlock, messagesSent, blocksTaken}
+use Rattle.queues.specs.Calls.{Call, offer, block, End, freshEnd, effects, blocksMade}
+use Rattle.queues.specs.Sent.{messagesAt, placedAt, framesOf}
+use Rattle.notices.specs.declared.Fate.{Fate}
+use Rattle.notices.specs.declared.Fate.the-variants.{Copy as CopyFate, Begun, Held, Whole, Orphan, Wrong}
+use Rattle.notices.specs.declared.Notice.{Notice}
+use Rattle.notices.specs.declared.Notice.the-variants.{End as EndNotice, Spoilt, Malformed, System as SystemNotice, Elsewhere, Circuit as CircuitNotice}
+use Rattle.packet.specs.Stores.{region}
+use Rattle.receiver.specs.Reads.{ReadCall, ReceiverEnd, freshReceiverEnd, bitsOfReads, Report, toldByReads}
 
 -- ---- what is free
 
@@ -65,24 +53,13 @@ sender p = freshEnd (p .senderList) (p .senderStore)
 abbrev pub queues : Pass → Queues
 queues p = freshQueues (circuitsOf (p .senderList))
 
--- "An accepted offer sends its message at its circuit": the message, and the number of its first packet there, counted from 0
-pub record Message : Type 0 where
-  pub text : List ℕ
-  pub first : ℕ
+-- what the calls do to the queues, in order: "A refused call sends and places nothing"
+abbrev pub effectsOfCalls : Pass → List Effect
+effectsOfCalls p = effects (sender p) (p .calls)
 
-unfoldable pub sentBy : Queues → Call → Circuit → List Message
-sentBy q (offer c priority repetition text) k =
-    cond (alike k (queueAt q c .circuit)) (record { text = text; first = queueAt q c .sent } ∷ []) []
-sentBy q (block n u buffer y) k = []
-
--- "the list of messages sent there, in the order of their offers"; "A refused call sends and places nothing"
-unfoldable pub sentByCalls : End → Queues → List Call → Circuit → List Message
-sentByCalls e q [] k = []
-sentByCalls e q (call ∷ calls) k =
-    cond (accepted e call) (sentBy q call k) [] ++ sentByCalls (afterCall e call) (queuesAfterCall e q call) calls k
-
+-- "the list of messages sent there, in the order of their offers": each with the number of its first packet there, counted from 0
 unfoldable pub messages : Pass → Circuit → List Message
-messages p k = sentByCalls (sender p) (queues p) (p .calls) k
+messages p k = messagesAt k (messagesSent (queues p) (effectsOfCalls p))
 
 -- "Each accepted block call gives the N bits of its block, as it leaves them. These are joined in the order of the calls."
 unfoldable pub joinedBits : Pass → List Bool
@@ -90,9 +67,9 @@ joinedBits p = flatten (blocksMade (sender p) (p .calls))
 
 -- "An accepted block call places frames as the block rule says": what is in those blocks
 unfoldable pub blocks : Pass → List TakenBlock
-blocks p = blocksTaken (sender p) (queues p) (p .calls)
+blocks p = blocksTaken (queues p) (effectsOfCalls p)
 
--- a frame in the joined bits: the number of its first flag's first bit, its packet, and the circuit and copy, or none for a system packet
+-- a frame in the joined bits: the number of its first flag's first bit, its packet, and the circuit and copy, or none for one that stands before ours
 pub record Frame : Type 0 where
   pub from : ℕ
   pub packet : List ℕ
@@ -102,22 +79,30 @@ pub record Frame : Type 0 where
 unfoldable pub frameLength : Frame → ℕ
 frameLength f = length (flag ++ frame (f .packet) ++ flag)
 
--- where the flag before them has its first bit at number n: a system packet's frame if one is wanted, and the frames placed, "neighbours sharing flags"
-unfoldable pub systemFrames : ℕ → System → List Frame
-systemFrames n y =
-    cond (y .wanted) (record { from = n; packet = systemPacket (y .enable) (y .code) (y .information); whose = none } ∷ []) []
+-- a packet in a block, and the circuit and copy, or none for one that stands before ours
+pub record InBlock : Type 0 where
+  pub packet : List ℕ
+  pub whose : Option Placed
 
-unfoldable pub placedFrames : ℕ → List Placed → List Frame
-placedFrames n [] = []
-placedFrames n (q ∷ qs) = record { from = n; packet = q .copy .packet; whose = some q } ∷ placedFrames (n + length (placedBits q)) qs
+abbrev pub notOurs : List ℕ → InBlock
+notOurs p = record { packet = p; whose = none }
 
--- the frames of a block whose first bit has number n: the last eight bits of its opening are the flag before those placed
-unfoldable pub framesIn : ℕ → TakenBlock → List Frame
-framesIn n b = systemFrames n (b .system) ++ placedFrames (n + length (opening (b .system)) - 8) (b .frames)
+abbrev pub ours : Placed → InBlock
+ours q = record { packet = q .copy .packet; whose = some q }
 
+-- all of them, in order
+unfoldable pub packetsIn : TakenBlock → List InBlock
+packetsIn b = map notOurs (b .before) ++ map ours (b .frames)
+
+-- their frames, where the flag before them has its first bit at number n, "neighbours sharing flags"
+unfoldable pub framesFrom : ℕ → List InBlock → List Frame
+framesFrom n [] = []
+framesFrom n (p ∷ ps) = record { from = n; packet = p .packet; whose = p .whose } ∷ framesFrom (n + length (frame (p .packet) ++ flag)) ps
+
+-- the frames of blocks, the first of which begins at number n
 unfoldable pub framesInBlocks : ℕ → List TakenBlock → List Frame
 framesInBlocks n [] = []
-framesInBlocks n (b ∷ bs) = framesIn n b ++ framesInBlocks (n + length (bitsOfBlock b)) bs
+framesInBlocks n (b ∷ bs) = framesFrom n (packetsIn b) ++ framesInBlocks (n + length (bitsOfBlock b)) bs
 
 unfoldable pub frames : Pass → List Frame
 frames p = framesInBlocks 0 (blocks p)
@@ -238,7 +223,7 @@ lossAt n (SystemNotice enable code len) = 0
 lossAt n Elsewhere = 0
 
 -- "The sum is over the losses of all notices that name the receiver's number for the address"
-unfoldable pub lossesAt : ℕ → List Told → ℕ
+unfoldable pub lossesAt : ℕ → List Report → ℕ
 lossesAt n [] = 0
 lossesAt n (t ∷ ts) = lossAt n (t .notice) + lossesAt n ts
 
@@ -259,20 +244,19 @@ handedAt n Malformed store = []
 handedAt n (SystemNotice enable code len) store = []
 handedAt n Elsewhere store = []
 
-unfoldable pub handedOver : ℕ → List Told → List (List ℕ)
+unfoldable pub handedOver : ℕ → List Report → List (List ℕ)
 handedOver n [] = []
 handedOver n (t ∷ ts) = handedAt n (t .notice) (t .store) ++ handedOver n ts
 
-abbrev pub notices : Pass → List Told
+abbrev pub notices : Pass → List Report
 notices p = toldByReads (receiver p) (p .reads)
 
 -- ---- what the lists, the pieces and the calls are
 
--- what is lent is bytes: numbers below 256
-unfoldable pub BytesIn : List Call → Type 0
-BytesIn [] = Unit {0}
-BytesIn (offer c priority repetition text ∷ calls) = Bytes text × BytesIn calls
-BytesIn (block n u buffer y ∷ calls) = Bytes (y .information) × BytesIn calls
+-- what a call is lent is bytes: numbers below 256
+unfoldable pub BytesIn : Call → Type 0
+BytesIn (offer c priority repetition text) = Bytes text
+BytesIn (block n u buffer y) = Bytes (y .information)
 
 pub record Given (p : Pass) : Type 0 where
   -- both lists are accepted, and they and what the calls are lent are bytes
@@ -280,7 +264,7 @@ pub record Given (p : Pass) : Type 0 where
   pub receiverListed : listRefusal (p .receiverList) ≡ 0
   pub senderBytes : Bytes (p .senderList)
   pub receiverBytes : Bytes (p .receiverList)
-  pub callBytes : BytesIn (p .calls)
+  pub callBytes : AllAre BytesIn (p .calls)
   -- the pieces are those of the joined bits
   pub inPieces : originals (p .pieces) ≡ joinedBits p
   -- "Reading calls take the bits that result if what the accepted ones read, joined in order, is exactly these"

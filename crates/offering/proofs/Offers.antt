@@ -8,8 +8,10 @@ use lib.ListN.{length}
 use borrow.Author.Tests.{ltb-true, ltb-false, not-false, ne-eqb}
 use Rattle.packet.specs.declared.Answer.the-variants.{Accepted, Refused}
 use Rattle.packet.specs.Answers.{answerOf}
+use Rattle.packet.specs.Messages.{longest}
+use Rattle.packet.specs.Stores.{region}
 use Rattle.offering.specs.declared.Sender.{Sender}
-use Rattle.offering.specs.Record.{slotAt, pending, inRange, region, storeLength}
+use Rattle.offering.specs.Record.{slotAt, pending, inRange, storeLength}
 use Rattle.offering.specs.Offering.{offerRefusal, offeredSender, offeredStore, senderAfterOffer, storeAfterOffer}
 
 -- what is known where an offer is accepted
@@ -19,7 +21,7 @@ pub record OfferFacts (s : Sender) (store : List ℕ) (c p r : ℕ) (m : List �
   pub circuit : c < s .circuits .count
   pub priority : p ≤ 3
   pub repetition : r ≤ 5
-  pub message : length m ≤ 4094
+  pub message : length m ≤ longest
   pub free : pending (slotAt s c) ≡ false
 
 -- a choice that gives 0 passed over a number that is not 0

@@ -9,7 +9,7 @@ use borrow.Author.Tests.{leb-true, eqb-true, le-leb, eq-eqb}
 use Rattle.bits.proofs.Each.{Each}
 use Rattle.bits.proofs.Tests.{and-both}
 use Rattle.packet.specs.Circuits.{circuitsRefusal, listed}
-use Rattle.packet.specs.Messages.{header, packets}
+use Rattle.packet.specs.Messages.{longest, header, packets}
 use Rattle.offering.specs.declared.Slot.{Slot}
 use Rattle.offering.specs.declared.Sender.{Sender}
 use Rattle.offering.specs.Record.{noSlot, slotAt, slotInRange, slotsInRange, inRange}
@@ -28,7 +28,7 @@ pub record SlotFacts (t : Slot) : Type 0 where
   pub index : t .index ≤ 7
   pub priority : t .priority ≤ 3
   pub repetition : t .repetition ≤ 5
-  pub short : t .length ≤ 4094
+  pub short : t .length ≤ longest
   pub place : t .place ≤ packets (t .length)
   pub copy : t .copy ≤ t .repetition
 
@@ -86,7 +86,7 @@ facts-inRange s f =
 
 -- the slot of a circuit number, and a slot that is changed
 slotsInRange-getD : (ts : List Slot) (i : ℕ) → slotsInRange ts ≡ true → slotInRange (getD ts i noSlot) ≡ true
-unfolding slotsInRange slotInRange noSlot packets header
+unfolding slotsInRange slotInRange noSlot longest packets header
 slotsInRange-getD [] i e = refl
 slotsInRange-getD (t ∷ ts) zero e = and-elim (slotInRange t) (slotsInRange ts) e .0
 slotsInRange-getD (t ∷ ts) (suc i) e = slotsInRange-getD ts i (and-elim (slotInRange t) (slotsInRange ts) e .1)

@@ -5,8 +5,10 @@ use mathlib.Core.List.{List}
 use lib.ListN.{length, set}
 use lib.Seq.{sets}
 use lib.Dec.{ltb, eqb}
+use Rattle.packet.specs.Messages.{longest}
+use Rattle.packet.specs.Stores.{region}
 use Rattle.offering.specs.declared.Sender.{Sender}
-use Rattle.offering.specs.Record.{region, storeLength, slotAt, pending, inRange}
+use Rattle.offering.specs.Record.{storeLength, slotAt, pending, inRange}
 
 -- the refusal of an offer, the first that holds in the order of document 01; 0 if it is accepted
 unfoldable pub offerRefusal : Sender → List ℕ → ℕ → ℕ → ℕ → List ℕ → ℕ
@@ -16,7 +18,7 @@ offerRefusal s store c priority repetition message =
     (cond (not (ltb c (s .circuits .count))) 6
     (cond (ltb 3 priority) 7
     (cond (ltb 5 repetition) 8
-    (cond (ltb 4094 (length message)) 9
+    (cond (ltb longest (length message)) 9
     (cond (pending (slotAt s c)) 10 0))))))
 
 -- the record after an accepted offer: all copies of all packets wait

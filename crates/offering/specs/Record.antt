@@ -8,14 +8,12 @@ use lib.ListN.{length, take, drop, getD, replicate}
 use lib.Dec.{leb, ltb, eqb}
 use Rattle.packet.specs.declared.Circuits.{Circuits}
 use Rattle.packet.specs.Circuits.{circuitsRefusal, listed}
-use Rattle.packet.specs.Messages.{packets}
+use Rattle.packet.specs.Messages.{longest, packets}
+use Rattle.packet.specs.Stores.{region}
 use Rattle.offering.specs.declared.Slot.{Slot}
 use Rattle.offering.specs.declared.Sender.{Sender}
 
--- "The store is lent bytes in regions of 4,096, one per circuit number: 16,384 for a sender"
-unfoldable pub region : ℕ
-region = 4096
-
+-- "16,384 for a sender"
 unfoldable pub storeLength : ℕ
 storeLength = 4 * region
 
@@ -43,7 +41,7 @@ pending t = ltb (t .place) (packets (t .length))
 -- number above the repetition" is out of range
 unfoldable pub slotInRange : Slot → Bool
 slotInRange t =
-    leb (t .index) 7 && leb (t .priority) 3 && leb (t .repetition) 5 && leb (t .length) 4094 &&
+    leb (t .index) 7 && leb (t .priority) 3 && leb (t .repetition) 5 && leb (t .length) longest &&
     leb (t .place) (packets (t .length)) && leb (t .copy) (t .repetition)
 
 unfoldable pub slotsInRange : List Slot → Bool

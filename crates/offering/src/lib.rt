@@ -1,15 +1,18 @@
-// The sender's record, and a message offered at a circuit.
+// The sender's record: a sender is listed, and a message is offered at a circuit.
 ghost use mathlib.Core.Path.{_≡_};
 ghost use Prim.Native.Nat.{_≤_, _<_};
 ghost use lib.ListN.{length};
 ghost use Rattle.packet.specs.Answers.{answerOf};
+ghost use Rattle.packet.specs.Circuits.{listRefusal, listing};
+ghost use Rattle.packet.specs.Messages.{longest};
+ghost use Rattle.offering.specs.Record.{fresh};
 ghost use Rattle.offering.specs.Offering.{offerRefusal, offeredSender, senderAfterOffer, storeAfterOffer};
 
-pub mod listing;
+pub mod slots;
 
-use listing::pending;
 use packet::Answer;
 use packet::Circuits;
+use slots::pending;
 
 // What a circuit has to send (specs/Record.antt has the meaning of each field).
 pub struct Slot {
@@ -41,6 +44,42 @@ pub struct Offered {
 }
 
 impl Sender {
+    // A circuit's region, and the store of four, in bytes.
+    pub const REGION: usize = packet::REGION;
+
+    pub const STORE: usize = 4 * packet::REGION;
+
+    // The record of a sender that has sent nothing.
+    pub fn fresh(circuits: Circuits) -> Sender
+        ensures { λ r. ⌜ r ≡ fresh circuits ⌝ }
+    {
+        let slot = Slot {
+            index: 0,
+            priority: 0,
+            repetition: 0,
+            copy: 0,
+            length: 0,
+            place: 1,
+        };
+        Sender {
+            circuits,
+            slots: [slot; 4],
+            last: 3,
+        }
+    }
+
+    // A sender for the circuits of a list.
+    pub fn list(bytes: &[u8]) -> Listed
+        ensures { λ r. ⌜ (r .answer ≡ answerOf (listRefusal (now (bytes .entry)))) × (r .sender ≡ fresh (listing (now (bytes .entry)))) ⌝ }
+    {
+        let listing = Circuits::list(bytes);
+        let circuits = listing.circuits;
+        Listed {
+            answer: packet::answer_of(listing.refusal),
+            sender: Sender::fresh(circuits),
+        }
+    }
+
     // The number of an offer's refusal, 0 if it is accepted.
     fn offer_refusal(
         self,
@@ -69,7 +108,7 @@ impl Sender {
         if 5 < repetition {
             return 8;
         }
-        if 4094 < message.len() {
+        if packet::LONGEST_MESSAGE < message.len() {
             return 9;
         }
         let slots = self.slots;
@@ -82,7 +121,7 @@ impl Sender {
 
     // The record with a message to send.
     fn offered(self, circuit: usize, priority: u8, repetition: u8, message: &[u8]) -> Sender
-        requires { ⌜ (circuit < 4) × (length (now message) ≤ 4094) ⌝ }
+        requires { ⌜ (circuit < 4) × (length (now message) ≤ longest) ⌝ }
         ensures { λ r. ⌜ r ≡ offeredSender self circuit priority repetition (now (message .entry)) ⌝ }
     {
         let circuits = self.circuits;

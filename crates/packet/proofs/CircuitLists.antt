@@ -1,11 +1,12 @@
--- The laws of circuit lists: a search over the circuits that are left, the circuits of bytes taken three at a time, and what a listing
+-- The laws of circuit lists: a search over what is left of a list, the circuits of bytes taken three at a time, and what a listing
 -- returns.
 use Prim.Native.Nat.{ℕ, zero, suc, _+_, _*_, _≤_, _<_, min}
 use native.Mathlib.Numerals.{add-one}
 use native.Mathlib.Omega.{arith}
 use mathlib.Core.Bool.{Bool, true, false, cond, not, _&&_, _||_, and-eq-true-iff}
 use mathlib.Core.List.{List, [], _∷_, _++_}
-use mathlib.Core.Path.{_≡_, refl, _∙_}
+use mathlib.Core.Option.{none, some, Option·some-injective, Option·none-ne-some}
+use mathlib.Core.Path.{_≡_, refl, ap, sym, _∙_}
 use borrow.Author.Tests.{ltb-false, eq-eqb, ne-eqb, eqb-true, eqb-false}
 use lib.Dec.{ltb, eqb}
 use lib.ListN.{length, take, drop, getD, set, replicate, length-take, length-drop, drop-of-length-le}
@@ -13,7 +14,8 @@ use lib.Seq.{sets, drop-cons, take-append-seam, getD-take, take-take}
 use Rattle.bits.proofs.Tests.{or-left, or-right}
 use Rattle.packet.specs.declared.Circuit.{Circuit}
 use Rattle.packet.specs.declared.Circuits.{Circuits}
-use Rattle.packet.specs.Circuits.{circuitsOf, some-circuit, wrongLength, addressFF, wrongExtension, alike, twoAlike, circuitsRefusal, listRefusal, listed, noCircuit, recordOf, listing}
+use Rattle.packet.specs.Circuits.{circuitsOf, wrongLength, addressFF, wrongExtension, alike, twoAlike, circuitsRefusal, listRefusal, listed, noCircuit, recordOf, listing, numberFrom}
+use Rattle.packet.specs.Lists.{anyOf, firstFrom}
 
 -- what is left of the first n of a list from place i on: it begins with the element at i, and is empty from its end on
 module _ {ℓ} {A : Type ℓ} where
@@ -28,29 +30,51 @@ module _ {ℓ} {A : Type ℓ} where
       let short : length (take n l) ≤ i = rw length-take h in
       drop-of-length-le (take n l) short
 
--- a search over what is left: it ends at a circuit that passes, goes on behind one that does not, and finds none at the end
-module _ (test : Circuit → Bool) (i n : ℕ) (l : List Circuit) where
-  pub some-circuit-found : i < n → i < length l → test (getD l i noCircuit) ≡ true → some-circuit test (drop i (take n l)) ≡ true
-  unfolding some-circuit
-  some-circuit-found below inside e = rw (drop-take-cons i n l noCircuit below inside, e)
+-- a search over what is left: it ends at an element that passes, goes on behind one that does not, and finds none at the end
+module _ {A : Type 0} (test : A → Bool) (i n : ℕ) (l : List A) (d : A) where
+  pub firstFrom-found : i < n → i < length l → test (getD l i d) ≡ true → firstFrom test (drop i (take n l)) i ≡ some i
+  unfolding firstFrom
+  firstFrom-found below inside e = rw (drop-take-cons i n l d below inside, e)
 
-  pub some-circuit-next : i < n → i < length l → test (getD l i noCircuit) ≡ false
-      → some-circuit test (drop i (take n l)) ≡ some-circuit test (drop (i + 1) (take n l))
-  unfolding some-circuit
-  some-circuit-next below inside e = rw (drop-take-cons i n l noCircuit below inside, e)
+  pub firstFrom-next : i < n → i < length l → test (getD l i d) ≡ false
+      → firstFrom test (drop i (take n l)) i ≡ firstFrom test (drop (i + 1) (take n l)) (i + 1)
+  unfolding firstFrom
+  firstFrom-next below inside e = rw (drop-take-cons i n l d below inside, e)
 
-  pub some-circuit-end : min n (length l) ≤ i → some-circuit test (drop i (take n l)) ≡ false
-  unfolding some-circuit
-  some-circuit-end h = rw (drop-take-nil i n l h)
+  pub firstFrom-end : min n (length l) ≤ i → firstFrom test (drop i (take n l)) i ≡ none
+  unfolding firstFrom
+  firstFrom-end h = rw (drop-take-nil i n l h)
+
+-- what a search finds: some element passes, and the number is an element's; or none passes
+module _ {A : Type 0} (test : A → Bool) where
+  pub firstFrom-some : (l : List A) (m n : ℕ) → firstFrom test l m ≡ some n → (anyOf test l ≡ true) × (n < m + length l)
+  unfolding firstFrom anyOf
+  firstFrom-some [] m n e = absurd (Option·none-ne-some n e)
+  firstFrom-some (x ∷ l) m n e = go (test x) e (firstFrom-some l (m + 1) n)
+    where
+      go : (t : Bool) → cond t (some m) (firstFrom test l (m + 1)) ≡ some n
+          → (firstFrom test l (m + 1) ≡ some n → (anyOf test l ≡ true) × (n < m + 1 + length l)) → ((t || anyOf test l) ≡ true) × (n < m + length (x ∷ l))
+      go true f later = let is : m ≡ n = Option·some-injective m n f in (refl, omega arith)
+      go false f later = (later f .0, omega (arith, later f .1))
+
+  pub firstFrom-none : (l : List A) (m : ℕ) → firstFrom test l m ≡ none → anyOf test l ≡ false
+  unfolding firstFrom anyOf
+  firstFrom-none [] m e = refl
+  firstFrom-none (x ∷ l) m e = go (test x) e (firstFrom-none l (m + 1))
+    where
+      go : (t : Bool) → cond t (some m) (firstFrom test l (m + 1)) ≡ none → (firstFrom test l (m + 1) ≡ none → anyOf test l ≡ false)
+          → (t || anyOf test l) ≡ false
+      go true f later = absurd (Option·none-ne-some m (sym f))
+      go false f later = later f
 
 -- two alike among what is left: sought behind each circuit in turn
 module _ (i n : ℕ) (l : List Circuit) where
-  pub twoAlike-found : i < n → i < length l → some-circuit (alike (getD l i noCircuit)) (drop (i + 1) (take n l)) ≡ true
+  pub twoAlike-found : i < n → i < length l → anyOf (alike (getD l i noCircuit)) (drop (i + 1) (take n l)) ≡ true
       → twoAlike (drop i (take n l)) ≡ true
   unfolding twoAlike
   twoAlike-found below inside e = rw (drop-take-cons i n l noCircuit below inside, e)
 
-  pub twoAlike-next : i < n → i < length l → some-circuit (alike (getD l i noCircuit)) (drop (i + 1) (take n l)) ≡ false
+  pub twoAlike-next : i < n → i < length l → anyOf (alike (getD l i noCircuit)) (drop (i + 1) (take n l)) ≡ false
       → twoAlike (drop i (take n l)) ≡ twoAlike (drop (i + 1) (take n l))
   unfolding twoAlike
   twoAlike-next below inside e = rw (drop-take-cons i n l noCircuit below inside, e)
@@ -63,7 +87,7 @@ module _ (i n : ℕ) (l : List Circuit) where
 drop-next : (l : List ℕ) (j k : ℕ) → j < length l → j + 1 ≡ k → drop j l ≡ getD l j 0 ∷ drop k l
 drop-next l j k h e = rw (← e, add-one) (drop-cons l j 0 h)
 
-pub circuitsOf-cons : (bs : List ℕ) (i : ℕ) → 3 * i + 2 < length bs
+circuitsOf-cons : (bs : List ℕ) (i : ℕ) → 3 * i + 2 < length bs
     → circuitsOf (drop (3 * i) bs)
     ≡ record { address = getD bs (3 * i) 0; extended = getD bs (3 * i + 1) 0; extension = getD bs (3 * i + 2) 0 } ∷ circuitsOf (drop (3 * (i + 1)) bs)
 unfolding circuitsOf
@@ -81,13 +105,13 @@ circuitsOf-short (a ∷ []) h = refl
 circuitsOf-short (a ∷ e ∷ []) h = refl
 circuitsOf-short (a ∷ e ∷ x ∷ l) h = absurd (omega arith)
 
-pub circuitsOf-nil : (bs : List ℕ) (i : ℕ) → length bs ≤ 3 * i + 2 → circuitsOf (drop (3 * i) bs) ≡ []
+circuitsOf-nil : (bs : List ℕ) (i : ℕ) → length bs ≤ 3 * i + 2 → circuitsOf (drop (3 * i) bs) ≡ []
 circuitsOf-nil bs i h =
     let short : length (drop (3 * i) bs) ≤ 2 = rw length-drop (omega arith) in
     circuitsOf-short (drop (3 * i) bs) short
 
 -- the number of circuits of bytes
-pub length-circuitsOf : (bs : List ℕ) → (3 * length (circuitsOf bs) ≤ length bs) × (length bs ≤ 3 * length (circuitsOf bs) + 2)
+length-circuitsOf : (bs : List ℕ) → (3 * length (circuitsOf bs) ≤ length bs) × (length bs ≤ 3 * length (circuitsOf bs) + 2)
 unfolding circuitsOf
 length-circuitsOf [] = omega arith
 length-circuitsOf (a ∷ []) = omega arith
@@ -95,7 +119,7 @@ length-circuitsOf (a ∷ e ∷ []) = omega arith
 length-circuitsOf (a ∷ e ∷ x ∷ bs) = omega (arith, length-circuitsOf bs)
 
 -- circuits stored in turn over four empty places are the record of them
-pub recordOf-list : (cs : List Circuit) → length cs ≤ 4 → sets (replicate 4 noCircuit) 0 cs ≡ recordOf cs .list
+recordOf-list : (cs : List Circuit) → length cs ≤ 4 → sets (replicate 4 noCircuit) 0 cs ≡ recordOf cs .list
 unfolding recordOf
 recordOf-list [] h = refl
 recordOf-list (a ∷ []) h = refl
@@ -154,14 +178,26 @@ pub alike-self : (c : Circuit) → alike c c ≡ true
 unfolding alike
 alike-self c = rw (eq-eqb (c .address) (c .address) refl, eq-eqb (c .extended) (c .extended) refl, eq-eqb (c .extension) (c .extension) refl)
 
-pub alike-swap : (a b : Circuit) → alike a b ≡ true → alike b a ≡ true
+alike-swap : (a b : Circuit) → alike a b ≡ true → alike b a ≡ true
 alike-swap a b e = rw (alike-is a b e) (alike-self b)
+
+alike-comm : (a b : Circuit) → alike a b ≡ alike b a
+alike-comm a b = go (alike a b) (alike b a) refl refl
+  where
+    go : (s t : Bool) → alike a b ≡ s → alike b a ≡ t → s ≡ t
+    go true true e f = refl
+    go true false e f = sym (alike-swap a b e) ∙ f
+    go false true e f = sym e ∙ alike-swap b a f
+    go false false e f = refl
+
+pub anyOf-alike : (c : Circuit) (cs : List Circuit) → anyOf (λ d. alike d c) cs ≡ anyOf (alike c) cs
+anyOf-alike c cs = ap (λ test. anyOf test cs) (λ i d. alike-comm d c i)
 
 -- the refusals 2, 3 and 4 of circuits that are accepted
 pub circuitsRefusal-zero : (cs : List Circuit) → circuitsRefusal cs ≡ 0
-    → (some-circuit addressFF cs ≡ false) × (some-circuit wrongExtension cs ≡ false) × (twoAlike cs ≡ false)
+    → (anyOf addressFF cs ≡ false) × (anyOf wrongExtension cs ≡ false) × (twoAlike cs ≡ false)
 unfolding circuitsRefusal
-circuitsRefusal-zero cs e = go (some-circuit addressFF cs) (some-circuit wrongExtension cs) (twoAlike cs) e
+circuitsRefusal-zero cs e = go (anyOf addressFF cs) (anyOf wrongExtension cs) (twoAlike cs) e
   where
     go : (a b c : Bool) → _≡_ {A = ℕ} (cond a 2 (cond b 3 (cond c 4 0))) 0 → (a ≡ false) × (b ≡ false) × (c ≡ false)
     go true b c h = absurd (omega arith)
@@ -170,12 +206,12 @@ circuitsRefusal-zero cs e = go (some-circuit addressFF cs) (some-circuit wrongEx
     go false false false h = (refl, refl, refl)
 
 -- a circuit of circuits that pass no test does not pass it
-pub some-circuit-each : (test : Circuit → Bool) (cs : List Circuit) (i : ℕ) → i < length cs → some-circuit test cs ≡ false
+pub anyOf-none : (test : Circuit → Bool) (cs : List Circuit) (i : ℕ) → i < length cs → anyOf test cs ≡ false
     → test (getD cs i noCircuit) ≡ false
-unfolding some-circuit
-some-circuit-each test [] i h e = absurd (omega arith)
-some-circuit-each test (c ∷ cs) zero h e = or-left (test c) (some-circuit test cs) e
-some-circuit-each test (c ∷ cs) (suc i) h e = some-circuit-each test cs i (omega arith) (or-right (test c) (some-circuit test cs) e)
+unfolding anyOf
+anyOf-none test [] i h e = absurd (omega arith)
+anyOf-none test (c ∷ cs) zero h e = or-left (test c) (anyOf test cs) e
+anyOf-none test (c ∷ cs) (suc i) h e = anyOf-none test cs i (omega arith) (or-right (test c) (anyOf test cs) e)
 
 -- a listed circuit of an accepted record has an extension or none
 wrongExtension-lt : (c : Circuit) → wrongExtension c ≡ false → c .extended < 2
@@ -189,7 +225,7 @@ pub circuitsRefusal-extended : (cs : Circuits) (i : ℕ) → i < cs .count → i
 unfolding listed
 circuitsRefusal-extended cs i below inside e =
     let short : i < length (take (cs .count) (cs .list)) = rw length-take (omega arith) in
-    let right = some-circuit-each wrongExtension (take (cs .count) (cs .list)) i short (circuitsRefusal-zero (take (cs .count) (cs .list)) e .1) in
+    let right = anyOf-none wrongExtension (take (cs .count) (cs .list)) i short (circuitsRefusal-zero (take (cs .count) (cs .list)) e .1) in
     wrongExtension-lt (getD (cs .list) i noCircuit) (rw (getD-take (cs .count) (cs .list) i noCircuit below) at right)
 
 -- an accepted list has one to four circuits
@@ -258,6 +294,14 @@ unfolding recordOf
 listing-count bs = listing-either (λ cs. cs .count ≤ 4) bs (λ e. listRefusal-length bs e .1) (omega arith)
 
 pub listing-refusal : (bs : List ℕ) → circuitsRefusal (listed (listing bs)) ≡ 0
-unfolding listed recordOf circuitsRefusal some-circuit twoAlike
+unfolding listed recordOf circuitsRefusal anyOf twoAlike
 listing-refusal bs = listing-either (λ cs. circuitsRefusal (listed cs) ≡ 0) bs
     (λ e. rw (listed-recordOf (circuitsOf bs) (listRefusal-length bs e .1)) (listRefusal-zero bs e .1)) refl
+
+-- a circuit's number, where one is found, is a listed circuit's
+pub number-lt : (cs : Circuits) (c : Circuit) (n : ℕ) → numberFrom (listed cs) c 0 ≡ some n → n < cs .count
+unfolding listed numberFrom
+number-lt cs c n e =
+    let h = firstFrom-some (λ d. alike d c) (take (cs .count) (cs .list)) 0 n e .1 in
+    let l : length (take (cs .count) (cs .list)) ≡ min (cs .count) (length (cs .list)) = length-take (cs .count) (cs .list) in
+    omega arith

@@ -34,7 +34,7 @@ unfolding packetOf
 length-packetOf c link index priority s some most = simp length-append (omega (arith, length-extensionOf c))
 
 -- control is a byte, and so are a packet's bytes
-pub control-lt : (link extended index priority : ℕ) → link < 4 → extended < 2 → index < 8 → priority < 4
+control-lt : (link extended index priority : ℕ) → link < 4 → extended < 2 → index < 8 → priority < 4
     → control link extended index priority < 256
 unfolding control
 control-lt link extended index priority l e i p = omega arith

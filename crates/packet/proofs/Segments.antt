@@ -12,7 +12,7 @@ use lib.ListN.{length, take, drop, length-append, length-take, length-drop}
 use lib.Seq.{take-all, take-add, take-append-add, drop-append-add}
 use Rattle.bits.specs.Bits.{Bytes}
 use Rattle.bits.proofs.Bits.{Bytes-append, Bytes-take, Bytes-drop}
-use Rattle.packet.specs.Messages.{header, headed, segment, joined, partFrom, partOf, packets}
+use Rattle.packet.specs.Messages.{longest, header, headed, segment, segmentsUpTo, partFrom, partOf, packets, linkOf}
 
 -- the header of a short message and of a long one
 pub header-short : (n : ℕ) → n ≤ 15 → header n ≡ n ∷ []
@@ -34,13 +34,13 @@ header-either P n short long = go (leb n 15) refl
 pub length-header : (n : ℕ) → (1 ≤ length (header n)) × (length (header n) ≤ 2)
 length-header n = header-either (λ l. (1 ≤ length l) × (length l ≤ 2)) n (λ h. omega arith) (λ h. omega arith)
 
-pub header-Bytes : (n : ℕ) → n ≤ 4094 → Bytes (header n)
-unfolding Bytes
+header-Bytes : (n : ℕ) → n ≤ longest → Bytes (header n)
+unfolding Bytes longest
 header-Bytes n h = header-either Bytes n (λ s. (omega arith, tt)) (λ l. (omega arith, (omega arith, tt)))
 
 -- the number of packets
-pub packets-most : (n : ℕ) → n ≤ 4094 → packets n ≤ 256
-unfolding packets
+pub packets-most : (n : ℕ) → n ≤ longest → packets n ≤ 256
+unfolding packets longest
 packets-most n h = omega (arith, length-header n)
 
 -- a segment of a packet has 1 to 16 bytes
@@ -53,25 +53,25 @@ unfolding segment packets
 length-segment m k h = simp (length-take, length-drop, length-headed) (omega arith)
 
 -- the segments joined are header and message
-pub joined-take : (m : List ℕ) (k : ℕ) → joined m k ≡ take (16 * k) (headed m)
-unfolding joined segment
-joined-take m zero = refl
-joined-take m (suc k) = rw (joined-take m k, mul-suc) (sym (take-add (16 * k) 16 (headed m)))
+segmentsUpTo-take : (m : List ℕ) (k : ℕ) → segmentsUpTo m k ≡ take (16 * k) (headed m)
+unfolding segmentsUpTo segment
+segmentsUpTo-take m zero = refl
+segmentsUpTo-take m (suc k) = rw (segmentsUpTo-take m k, mul-suc) (sym (take-add (16 * k) 16 (headed m)))
 
-pub headed-segments : (m : List ℕ) → joined m (packets (length m)) ≡ headed m
+pub headed-segments : (m : List ℕ) → segmentsUpTo m (packets (length m)) ≡ headed m
 unfolding packets
 headed-segments m =
     let all : length (headed m) ≤ 16 * packets (length m) = rw length-headed (omega arith) in
-    joined-take m (packets (length m)) ∙ take-all (16 * packets (length m)) (headed m) all
+    segmentsUpTo-take m (packets (length m)) ∙ take-all (16 * packets (length m)) (headed m) all
 
 -- the parts of the message in the first segment and in a later one
-pub segment-first : (m : List ℕ) → segment m 0 ≡ header (length m) ++ take (16 - length (header (length m))) m
+segment-first : (m : List ℕ) → segment m 0 ≡ header (length m) ++ take (16 - length (header (length m))) m
 unfolding segment headed
 segment-first m =
     let e : 16 ≡ length (header (length m)) + (16 - length (header (length m))) = omega (arith, length-header (length m)) in
     ap (λ (n : ℕ). take n (header (length m) ++ m)) e ∙ take-append-add (header (length m)) m (16 - length (header (length m)))
 
-pub segment-later : (m : List ℕ) (k : ℕ) → segment m (suc k) ≡ take 16 (drop (16 * suc k - length (header (length m))) m)
+segment-later : (m : List ℕ) (k : ℕ) → segment m (suc k) ≡ take 16 (drop (16 * suc k - length (header (length m))) m)
 unfolding segment headed
 segment-later m k =
     let e : 16 * suc k ≡ length (header (length m)) + (16 * suc k - length (header (length m))) = omega (arith, length-header (length m)) in
@@ -122,8 +122,18 @@ unfolding partOf partFrom
 partOf-eq n k from room len starts ends fits = cc (min-sub room from (16 * (k + 1) - length (header n)) n ends)
 
 -- the bytes of a segment
-pub segment-Bytes : (m : List ℕ) (k : ℕ) → length m ≤ 4094 → Bytes m → Bytes (segment m k)
+pub segment-Bytes : (m : List ℕ) (k : ℕ) → length m ≤ longest → Bytes m → Bytes (segment m k)
 unfolding segment headed
 segment-Bytes m k short h =
     Bytes-take 16 (drop (16 * k) (header (length m) ++ m))
     (Bytes-drop (16 * k) (header (length m) ++ m) (Bytes-append (header (length m)) m (header-Bytes (length m) short) h))
+
+-- a link number is 0, 1 or 2
+pub linkOf-lt : (k n : ℕ) → linkOf k n < 3
+unfolding linkOf
+linkOf-lt k n = go (eqb k 0) (eqb (k + 1) n)
+  where
+    go : (a b : Bool) → cond a 2 (cond b 1 0) < 3
+    go true b = omega arith
+    go false true = omega arith
+    go false false = omega arith

@@ -6,6 +6,10 @@ use lib.ListN.{length, take, drop}
 use lib.Dec.{leb, eqb}
 use Rattle.packet.specs.declared.Part.{Part}
 
+-- "Messages of 0 to 4,094 bytes"
+unfoldable pub longest : ℕ
+longest = 4094
+
 -- "length up to 15 takes one byte, 16 to 4,094 two bytes": the length in A3 to A0, or with A4 set its upper bits in A3 to A0 and
 -- its lower eight in the second byte. "Reserved header bits are sent as 0": A7 to A5
 unfoldable pub header : ℕ → List ℕ
@@ -20,9 +24,9 @@ unfoldable pub segment : List ℕ → ℕ → List ℕ
 segment message k = take 16 (drop (16 * k) (headed message))
 
 -- the first k segments, joined
-unfoldable pub joined : List ℕ → ℕ → List ℕ
-joined message zero = []
-joined message (suc k) = joined message k ++ segment message k
+unfoldable pub segmentsUpTo : List ℕ → ℕ → List ℕ
+segmentsUpTo message zero = []
+segmentsUpTo message (suc k) = segmentsUpTo message k ++ segment message k
 
 -- the byte of a message of n bytes with which its part in segment k begins: byte 16 * k of header and message
 unfoldable pub partFrom : ℕ → ℕ → ℕ

@@ -8,7 +8,7 @@ use Rattle.bits.proofs.Bits.{length-bitsOf}
 use Rattle.framing.proofs.Scanned.{scan-between}
 use Rattle.receiver.specs.declared.Receiver.{Receiver}
 use Rattle.receiver.specs.declared.Reading.{Reading}
-use Rattle.receiver.specs.declared.Notice.{Notice}
+use Rattle.notices.specs.declared.Notice.{Notice}
 use Rattle.receiver.specs.declared.Read.the-variants.{Told}
 use Rattle.receiver.specs.Reading.{ReadCalled, readBy, readScan, readRefusal, bitsRead, readNumber, answerToRead}
 use Rattle.receiver.proofs.ReadLaws.{readNumber-readOf, before-scan}

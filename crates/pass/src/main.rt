@@ -1,18 +1,18 @@
 // A pass end to end on the proved calls. Four circuits take messages of telemetry as they get free, and twelve blocks carry them. The joined
 // bits are torn in five places and read back in uneven cuts, by a receiver that lists the circuits in another order.
 // The file `stdout` has what other code makes of document 01 (tests/pass).
+use notices::Fate;
+use notices::Notice;
+use offering::Sender;
 use packet::Answer;
 use printing::print;
 use printing::print_bytes;
 use printing::print_number;
 use printing::print_right;
-use receiver::Fate;
-use receiver::Notice;
 use receiver::Read;
 use receiver::Receiver;
 use sender::Made;
 use sender::Making;
-use sender::Sender;
 use sender::blocks::make_block;
 ghost use mathlib.Core.Path.{_≡_};
 ghost use Prim.Native.Nat.{_*_, _≤_, _<_};
@@ -392,7 +392,7 @@ fn main() {
     print(b"\nTearing\n");
     tear(&mut joined);
     print(b"\nReading, in cuts of 1 to 200 bits\n");
-    let mut heard = [0u8; 16400];
+    let mut heard = [0u8; Receiver::STORE];
     let mut counts = [0usize; 40];
     receive(&mut heard, &joined, &mut counts);
     print(b"\nSums\n");

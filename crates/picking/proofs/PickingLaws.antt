@@ -166,8 +166,8 @@ copied t =
       place = t .place;
     }
 
-abbrev pub passed : Slot → Slot
-passed t =
+abbrev pub movedOn : Slot → Slot
+movedOn t =
     record {
       index = (t .index + 1) % 8;
       priority = t .priority;
@@ -181,12 +181,12 @@ pub advanced-copied : (t : Slot) → t .copy < t .repetition → advanced t ≡ 
 unfolding advanced
 advanced-copied t h = rw (lt-ltb (t .copy) (t .repetition) h)
 
-pub advanced-passed : (t : Slot) → t .repetition ≤ t .copy → advanced t ≡ passed t
+pub advanced-movedOn : (t : Slot) → t .repetition ≤ t .copy → advanced t ≡ movedOn t
 unfolding advanced
-advanced-passed t h = rw (le-ltb (t .copy) (t .repetition) h)
+advanced-movedOn t h = rw (le-ltb (t .copy) (t .repetition) h)
 
 -- what holds in both cases
-advanced-cases : (P : Slot → Type 0) (t : Slot) → (t .copy < t .repetition → P (copied t)) → (t .repetition ≤ t .copy → P (passed t)) → P (advanced t)
+advanced-cases : (P : Slot → Type 0) (t : Slot) → (t .copy < t .repetition → P (copied t)) → (t .repetition ≤ t .copy → P (movedOn t)) → P (advanced t)
 advanced-cases P t f g = go (ltb (t .copy) (t .repetition)) refl
   where
     go : (b : Bool) → ltb (t .copy) (t .repetition) ≡ b → P (advanced t)
@@ -195,7 +195,7 @@ advanced-cases P t f g = go (ltb (t .copy) (t .repetition)) refl
         rw (advanced-copied t h) (f h)
     go false e =
         let h : t .repetition ≤ t .copy = ltb-false _ _ e in
-        rw (advanced-passed t h) (g h)
+        rw (advanced-movedOn t h) (g h)
 
 -- a slot stays in range, and one copy less waits there
 pub slotInRange-advanced : (t : Slot) → slotInRange t ≡ true → pending t ≡ true → slotInRange (advanced t) ≡ true

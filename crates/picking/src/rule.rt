@@ -1,6 +1,6 @@
 // The block rule: which circuit's frame is next, and the record after a copy of it is placed.
 ghost use mathlib.Core.Path.{_≡_};
-ghost use Prim.Native.Nat.{_≤_, _<_};
+ghost use Prim.Native.Nat.{_<_};
 ghost use mathlib.Core.Bool.{true, _&&_};
 ghost use lib.Dec.{eqb};
 ghost use Rattle.offering.specs.Record.{slotAt, pending, slotInRange, inRange};
@@ -20,13 +20,12 @@ fn enabled(enable: u8, priority: u8) -> bool
 
 // A copy of this priority waits at the slot.
 fn waits(t: Slot, priority: u8) -> bool
-    requires { ⌜ t .length ≤ 4094 ⌝ }
     ensures { λ r. ⌜ r ≡ (pending t && eqb (t .priority) priority) ⌝ }
 {
     if t.priority != priority {
         return false;
     }
-    offering::listing::pending(t)
+    offering::slots::pending(t)
 }
 
 // The first circuit at which a copy of this priority waits, going round after the one last served.
@@ -69,7 +68,7 @@ pub fn pick(sender: Sender, enable: u8) -> Pick
 }
 
 // The slot after a copy is placed: the packet's next copy, or the next packet's first.
-pub fn advance(t: Slot) -> Slot
+fn advance(t: Slot) -> Slot
     requires { ⌜ (slotInRange t ≡ true) × (pending t ≡ true) ⌝ }
     ensures { λ r. ⌜ r ≡ advanced t ⌝ }
 {

@@ -9,15 +9,18 @@ use Rattle.bits.specs.Bits.{odd, lowBits, byteBits, bitsOf}
 use Rattle.fcs.specs.Fcs.{poly, divided, fcsBit, fcsRun, preset, complement, fcsOf, lowFirst}
 use Rattle.hdlc.specs.Stuffing.{stuffFrom, stuff}
 use Rattle.hdlc.specs.Frames.{flag, withFcs, frame}
-use Rattle.packet.specs.Circuits.{circuitsOf, some-circuit, wrongLength, addressFF, wrongExtension, alike, twoAlike, circuitsRefusal, listRefusal, listed, noCircuit, recordOf, listing}
-use Rattle.packet.specs.Messages.{header, headed, segment, packets, linkOf}
+use Rattle.packet.specs.Circuits.{circuitsOf, wrongLength, addressFF, wrongExtension, alike, twoAlike, circuitsRefusal, listRefusal, listed, noCircuit, recordOf, listing}
+use Rattle.packet.specs.Messages.{longest, header, headed, segment, packets, linkOf}
 use Rattle.packet.specs.Packets.{control, extensionOf, packetOf}
-use Rattle.offering.specs.Record.{region, storeLength, freshSlot, fresh, slotAt, pending, slotInRange, slotsInRange, inRange}
+use Rattle.packet.specs.Lists.{anyOf}
+use Rattle.packet.specs.Stores.{region}
+use Rattle.offering.specs.Record.{storeLength, freshSlot, fresh, slotAt, pending, slotInRange, slotsInRange, inRange}
 use Rattle.offering.specs.Offering.{offerRefusal, offeredSender, offeredStore, senderAfterOffer, storeAfterOffer}
 use Rattle.picking.specs.Picking.{enabled, goingRound, orElse}
-use Rattle.sender.specs.Blocks.{System, enableBits, opening, blockRefusal}
-use Rattle.queues.specs.Queues.{freshQueue, freshQueues, queueAt, copyOf, copiesFrom, messageCopies, offered, offerQueues, frontHas, firstQueue, pickQueueFrom, pickQueue, behindFirst, behind, serveQueues, Placed, placedBits, takenNone, andTaken, takingFirst, taking, takeUpTo, copiesInQueues, takeFrames}
-use Rattle.queues.specs.Calls.{Call, offer, block, freshEnd, accepted, afterCall, queuesAfterAccepted, queuesAfterCall, blocksMade, TakenBlock, bitsOfBlock, taken, blocksTaken}
+use Rattle.sender.specs.Blocks.{framesBits, flaggedFrames, System, systemPackets, enableBits, wrongSize, shortBuffer, wrongSystem, blockRefusal}
+use Rattle.queues.specs.Queues.{freshQueue, freshQueues, queueAt, copyOf, copiesFrom, messageCopies, messageFor, offered, offerQueues, frontHas, firstQueue, pickQueueFrom, pickQueue, behindFirst, behind, serveQueues, Placed, takenNone, andTaken, takingFirst, taking, takeUpTo, copiesInQueues, takeFrames}
+use Rattle.queues.specs.Effects.{takenFor, TakenBlock, bitsOfBlock, queuesAfterEffect, takenBy, blocksTaken}
+use Rattle.queues.specs.Calls.{Call, offer, block, freshEnd, accepted, afterCall, effect, effectOf, effects, blocksMade}
 use Rattle.queues.proofs.BlocksAreQueues.{blocks-are-queues}
 
 list : List ℕ
@@ -45,23 +48,23 @@ second =
 
 -- the block that the rule takes
 expected : TakenBlock
-expected = record { size = 256; system = nothingWanted; frames = second ∷ second ∷ first ∷ [] }
+expected = record { size = 256; before = []; frames = second ∷ second ∷ first ∷ [] }
 
-taken-example : blocksTaken (freshEnd list (replicate 16384 0)) (freshQueues (circuitsOf list)) calls ≡ expected ∷ []
+taken-example : blocksTaken (freshQueues (circuitsOf list)) (effects (freshEnd list (replicate 16384 0)) calls) ≡ expected ∷ []
 unfolding list nothingWanted calls first second expected
     odd lowBits byteBits bitsOf xor poly divided fcsBit fcsRun preset complement fcsOf lowFirst stuffFrom stuff flag withFcs frame
-    circuitsOf some-circuit wrongLength addressFF wrongExtension alike twoAlike circuitsRefusal listRefusal listed noCircuit recordOf listing
-    header headed segment packets linkOf control extensionOf packetOf
+    circuitsOf anyOf wrongLength addressFF wrongExtension alike twoAlike circuitsRefusal listRefusal listed noCircuit recordOf listing
+    longest header headed segment packets linkOf control extensionOf packetOf
     region storeLength freshSlot fresh slotAt pending slotInRange slotsInRange inRange
     offerRefusal offeredSender offeredStore senderAfterOffer storeAfterOffer enabled goingRound orElse
-    enableBits opening blockRefusal
-    freshQueue freshQueues queueAt copyOf copiesFrom messageCopies offered offerQueues
+    framesBits flaggedFrames systemPackets enableBits wrongSize shortBuffer wrongSystem blockRefusal
+    freshQueue freshQueues queueAt copyOf copiesFrom messageCopies messageFor offered offerQueues
     frontHas firstQueue pickQueueFrom pickQueue behindFirst behind serveQueues
-    placedBits takenNone andTaken takingFirst taking takeUpTo copiesInQueues takeFrames
-    accepted afterCall queuesAfterAccepted queuesAfterCall taken blocksTaken
+    takenNone andTaken takingFirst taking takeUpTo copiesInQueues takeFrames
+    takenFor queuesAfterEffect takenBy blocksTaken accepted afterCall effect effectOf effects
 taken-example = refl
 
 -- and the bits in the buffer
 made-example : blocksMade (freshEnd list (replicate 16384 0)) calls ≡ map bitsOfBlock (expected ∷ [])
-unfolding list circuitsOf some-circuit wrongLength addressFF wrongExtension alike twoAlike circuitsRefusal listRefusal
+unfolding list circuitsOf anyOf wrongLength addressFF wrongExtension alike twoAlike circuitsRefusal listRefusal
 made-example = blocks-are-queues list (replicate 16384 0) calls refl ∙ ap (map bitsOfBlock) taken-example

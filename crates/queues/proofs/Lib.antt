@@ -6,6 +6,7 @@ pub mod StandsOffer
 pub mod StandsBlock
 pub mod StandsCalls
 pub mod BlocksAreQueues
-pub mod IndexCounts
+pub mod AtCircuit
 pub mod FirstInFirstOut
+pub mod IndexCounts
 pub mod Example

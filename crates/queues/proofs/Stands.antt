@@ -18,7 +18,7 @@ use Rattle.offering.specs.declared.Slot.{Slot}
 use Rattle.offering.specs.Record.{pending, slotInRange}
 use Rattle.picking.specs.Picking.{advanced, copiesWaiting}
 use Rattle.picking.proofs.PickingLaws.{SlotPending, slotPending}
-use Rattle.queues.specs.Queues.{Copy, Queue, copyOf, copiesFrom, messageCopies, offered, someWaits, frontHas, behindFirst, behind}
+use Rattle.queues.specs.Queues.{Copy, Queue, copyOf, copiesFrom, messageCopies, messageFor, offered, someWaits, frontHas, behindFirst, behind}
 use Rattle.queues.specs.Stands.{StandsFor}
 use Rattle.queues.proofs.Queues.{behindFirst-cons, cons-behindFirst}
 
@@ -125,7 +125,7 @@ module _ (k : Circuit) (t : Slot) (text : List ℕ) (q : Queue) (h : StandsFor k
       → StandsFor k
       (record { index = t .index; priority = priority; repetition = repetition; copy = 0; length = length message; place = 0 })
       message (offered q priority repetition message)
-  unfolding offered messageCopies pending
+  unfolding offered messageFor messageCopies pending
   StandsFor-offered e priority repetition message =
       let none : packets (t .length) - t .place ≡ 0 = omega (arith, ltb-false (t .place) (packets (t .length)) e) in
       record {

@@ -2,7 +2,7 @@
 use Prim.Native.Nat.{ℕ, zero, suc, _+_, _≤_, _<_}
 use native.Mathlib.Omega.{arith}
 use mathlib.Core.Bool.{Bool, true, false, cond}
-use mathlib.Core.List.{List, [], _∷_, _++_}
+use mathlib.Core.List.{List, [], _∷_}
 use mathlib.Core.Option.{Option, none, some}
 use mathlib.Core.Path.{_≡_, refl, sym, ap, ap₂}
 use lib.ListN.{length, take, getD}
@@ -14,41 +14,41 @@ use Rattle.offering.specs.Record.{noSlot, slotAt, messageAt}
 use Rattle.offering.proofs.Ranges.{inRange-facts}
 use Rattle.picking.specs.Picking.{pick, served, copiesWaiting}
 use Rattle.writing.specs.NextFrame.{nextFrame}
-use Rattle.sender.specs.Blocks.{Filled, full, andThen, placing, fill, copiesIn, waiting, filled, System, enableBits, opening, blockFilled}
-use Rattle.queues.specs.Queues.{Queue, Queues, freshQueue, queueAt, serveQueues, Placed, placedBits, framesBits, Taken, takenNone, andTaken, takingFirst, taking, takeUpTo, copiesInQueues, takeFrames}
+use Rattle.sender.specs.Blocks.{flaggedFrames, placedPackets, Filled, full, andThen, placing, fill, copiesIn, waiting, fillUp, blockFilled}
+use Rattle.queues.specs.Queues.{Queue, Queues, freshQueue, queueAt, serveQueues, Placed, Taken, takenNone, andTaken, takingFirst, taking, takeUpTo, copiesInQueues, takeFrames}
+use Rattle.queues.specs.Effects.{packetsTaken}
 use Rattle.queues.specs.Stands.{Stands}
 use Rattle.queues.proofs.Stands.{StandsFor-copiesWaiting}
 use Rattle.queues.proofs.StandsPick.{stands-pick, stands-first, stands-serve}
 
 -- what is filled is what is taken
 pub record FilledAs (store : List ℕ) (f : Filled) (t : Taken) : Type 0 where
-  pub bits : f .bits ≡ framesBits (t .frames)
-  pub placed : f .placed ≡ length (t .frames)
+  pub packets : placedPackets (f .frames) ≡ packetsTaken (t .frames)
   pub stands : Stands (f .sender) store (t .queues)
 
 module _ (s : Sender) (store : List ℕ) (q : Queues) (h : Stands s store q) where
   FilledAs-none : FilledAs store (full s) (takenNone q)
-  unfolding full takenNone framesBits
-  FilledAs-none = record { bits = refl; placed = refl; stands = h }
+  unfolding full takenNone placedPackets packetsTaken
+  FilledAs-none = record { packets = refl; stands = h }
 
-  FilledAs-more : (p : Placed) (f : Filled) (t : Taken) → FilledAs store f t → (fits : Bool)
-      → FilledAs store (cond fits (andThen (placedBits p) f) (full s)) (cond fits (andTaken p t) (takenNone q))
-  unfolding andThen andTaken framesBits
-  FilledAs-more p f t e true = record { bits = ap (_++_ (placedBits p)) (e .bits); placed = ap suc (e .placed); stands = e .stands }
-  FilledAs-more p f t e false = FilledAs-none
+  FilledAs-more : (c : ℕ) (p : Placed) (f : Filled) (t : Taken) → FilledAs store f t → (fits : Bool)
+      → FilledAs store (cond fits (andThen (record { number = c; packet = p .copy .packet }) f) (full s)) (cond fits (andTaken p t) (takenNone q))
+  unfolding andThen andTaken placedPackets packetsTaken
+  FilledAs-more c p f t e true = record { packets = ap (λ l. p .copy .packet ∷ l) (e .packets); stands = e .stands }
+  FilledAs-more c p f t e false = FilledAs-none
 
   -- one frame, and what comes later
   FilledAs-placing : (enable at u : ℕ) (f : ℕ → Filled) (g : ℕ → ℕ → Taken)
       → ((c : ℕ) → pick s enable ≡ some c → FilledAs store (f c) (g c (at + length (nextFrame s store c))))
       → FilledAs store (placing (pick s enable) s store at u f) (taking (pick s enable) q at u g)
-  unfolding placing taking takingFirst placedBits nextFrame
+  unfolding placing taking takingFirst nextFrame
   FilledAs-placing enable at u f g later = go (pick s enable) refl
     where
       go : (o : Option ℕ) → pick s enable ≡ o → FilledAs store (placing o s store at u f) (taking o q at u g)
       go none e = FilledAs-none
       go (some c) e =
           rw (stands-first s store q h enable c e)
-          (FilledAs-more _ (f c) (g c (at + length (nextFrame s store c))) (later c e) (leb (at + length (nextFrame s store c)) u))
+          (FilledAs-more c _ (f c) (g c (at + length (nextFrame s store c))) (later c e) (leb (at + length (nextFrame s store c)) u))
 
 -- at most n frames
 FilledAs-fill : (n : ℕ) (s : Sender) (store : List ℕ) (q : Queues) (at enable u : ℕ) → Stands s store q
@@ -80,10 +80,10 @@ waiting-copiesInQueues s store q h =
     let listed : i < s .circuits .count = rw (h .count) at e in
     StandsFor-copiesWaiting (getD (s .circuits .list) i noCircuit) (slotAt s i) (messageAt s store i) (queueAt q i) (h .each i listed)))
 
--- the frames of a block are the copies that the block rule takes from the queues
-pub stands-block : (s : Sender) (store : List ℕ) (q : Queues) (u : ℕ) (y : System) → Stands s store q
-    → FilledAs store (blockFilled s store u y) (takeFrames q (length (opening y)) (enableBits y) u)
-unfolding blockFilled filled takeFrames
-stands-block s store q u y h =
+-- our frames in a block are the copies that the block rule takes from the queues
+pub stands-block : (s : Sender) (store : List ℕ) (q : Queues) (u : ℕ) (before : List (List ℕ)) (enable : ℕ) → Stands s store q
+    → FilledAs store (blockFilled s store u before enable) (takeFrames q (length (flaggedFrames before)) enable u)
+unfolding blockFilled fillUp takeFrames
+stands-block s store q u before enable h =
     rw (waiting-copiesInQueues s store q h)
-    (FilledAs-fill (copiesInQueues (q .queues)) s store q (length (opening y)) (enableBits y) u h)
+    (FilledAs-fill (copiesInQueues (q .queues)) s store q (length (flaggedFrames before)) enable u h)

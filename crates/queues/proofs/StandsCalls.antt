@@ -9,16 +9,21 @@ use lib.Seq.{getD-take, take-take, take-append-seam}
 use lib.Dec.{eqb}
 use borrow.Author.Tests.{eqb-true, eqb-false}
 use Rattle.packet.specs.declared.Circuit.{Circuit}
-use Rattle.packet.specs.Circuits.{circuitsOf, circuitsRefusal, some-circuit, twoAlike, listRefusal, listed, noCircuit, recordOf, listing}
-use Rattle.packet.specs.Messages.{header, packets}
+use Rattle.packet.specs.Circuits.{circuitsOf, circuitsRefusal, twoAlike, listRefusal, listed, noCircuit, recordOf, listing}
+use Rattle.packet.specs.Messages.{longest, header, packets}
+use Rattle.packet.specs.Lists.{anyOf}
+use Rattle.packet.specs.Stores.{region}
+use Rattle.packet.proofs.Choices.{cond-either}
 use Rattle.packet.proofs.CircuitLists.{listing-accepted, listing-refused, listed-listing, listing-refusal, listRefusal-length}
 use Rattle.offering.specs.declared.Sender.{Sender}
-use Rattle.offering.specs.Record.{region, freshSlot, fresh, noSlot, slotAt, messageAt, slotInRange, slotsInRange, inRange}
+use Rattle.offering.specs.Record.{freshSlot, fresh, noSlot, slotAt, messageAt, slotInRange, slotsInRange, inRange}
 use Rattle.offering.specs.Offering.{offerRefusal, offeredSender, offeredStore, senderAfterOffer, storeAfterOffer}
 use Rattle.offering.proofs.Ranges.{facts-inRange}
-use Rattle.sender.specs.Blocks.{System, enableBits, opening, blockFilled, blockRefusal, senderAfterBlock}
-use Rattle.queues.specs.Queues.{Queues, freshQueue, freshQueues, queueAt, copiesFrom, offerQueues, takeFrames}
-use Rattle.queues.specs.Calls.{Call, offer, block, End, freshEnd, accepted, afterCall, afterCalls, queuesAfterAccepted, queuesAfterCall, queuesAfter}
+use Rattle.offering.proofs.Offers.{OfferFacts, offerRefusal-zero}
+use Rattle.sender.specs.Blocks.{System, systemPackets, enableBits, blockFilled, blockRefusal, senderAfterBlock}
+use Rattle.queues.specs.Queues.{Queues, freshQueue, freshQueues, queueAt, copiesFrom}
+use Rattle.queues.specs.Effects.{Effect, noEffect, sendsMessage, takesFrames, takenFor, queuesAfterEffect, queuesAfter}
+use Rattle.queues.specs.Calls.{Call, offer, block, End, freshEnd, accepted, afterCall, afterCalls, effect, effectOf, effects}
 use Rattle.queues.specs.Stands.{StandsFor, Stands}
 use Rattle.queues.proofs.StandsOffer.{stands-offer}
 use Rattle.queues.proofs.StandsBlock.{stands-block}
@@ -26,7 +31,7 @@ use Rattle.queues.proofs.StandsBlock.{stands-block}
 -- ---- a fresh sender
 
 slotsInRange-fresh : (n k : ℕ) → slotsInRange (take n (replicate k freshSlot)) ≡ true
-unfolding slotsInRange slotInRange freshSlot packets header
+unfolding slotsInRange slotInRange freshSlot packets header longest
 slotsInRange-fresh zero k = refl
 slotsInRange-fresh (suc n) zero = refl
 slotsInRange-fresh (suc n) (suc k) = slotsInRange-fresh n k
@@ -80,8 +85,8 @@ stands-fresh bytes store e =
     rw (listing-accepted bytes e) (Stands-fresh (circuitsOf bytes) (listRefusal-length bytes e .1) right store)
 
 -- the record of no circuits, which a refused one returned
-pub stands-refused : (bytes store : List ℕ) → (listRefusal bytes ≡ 0 → ⊥) → Stands (fresh (listing bytes)) store (freshQueues [])
-unfolding circuitsRefusal some-circuit twoAlike
+stands-refused : (bytes store : List ℕ) → (listRefusal bytes ≡ 0 → ⊥) → Stands (fresh (listing bytes)) store (freshQueues [])
+unfolding circuitsRefusal anyOf twoAlike
 stands-refused bytes store e = rw (listing-refused bytes e) (Stands-fresh [] (omega arith) refl store)
 
 -- ---- calls
@@ -90,35 +95,39 @@ module _ (s : Sender) (store : List ℕ) (q : Queues) (h : Stands s store q) whe
   stands-offer-call : (c priority repetition : ℕ) (message : List ℕ) (b : Bool)
       → eqb (offerRefusal s store c priority repetition message) 0 ≡ b
       → Stands (cond b (offeredSender s c priority repetition message) s) (cond b (offeredStore store c message) store)
-      (cond b (offerQueues q c priority repetition message) q)
+      (queuesAfterEffect q (cond b (sendsMessage c priority repetition message) noEffect))
+  unfolding queuesAfterEffect
   stands-offer-call c priority repetition message true e =
       stands-offer s store q h c priority repetition message (eqb-true (offerRefusal s store c priority repetition message) 0 e)
   stands-offer-call c priority repetition message false e = h
 
-  stands-block-call : (u : ℕ) (y : System) (b : Bool)
-      → Stands (cond b (blockFilled s store u y .sender) s) store (cond b (takeFrames q (length (opening y)) (enableBits y) u .queues) q)
-  stands-block-call u y true = stands-block s store q u y h .stands
-  stands-block-call u y false = h
+  stands-block-call : (n u : ℕ) (buffer : List ℕ) (y : System) (b : Bool)
+      → Stands (cond b (blockFilled s store u (systemPackets y) (enableBits y) .sender) s) store (queuesAfterEffect q (cond b (effect (block n u buffer y)) noEffect))
+  unfolding queuesAfterEffect effect takenFor
+  stands-block-call n u buffer y true = stands-block s store q u (systemPackets y) (enableBits y) h .stands
+  stands-block-call n u buffer y false = h
 
+-- record and store follow a call's effect
 pub stands-call : (call : Call) (e : End) (q : Queues) → Stands (e .sender) (e .store) q
-    → Stands (afterCall e call .sender) (afterCall e call .store) (queuesAfterCall e q call)
-unfolding afterCall queuesAfterCall accepted queuesAfterAccepted senderAfterOffer storeAfterOffer senderAfterBlock
+    → Stands (afterCall e call .sender) (afterCall e call .store) (queuesAfterEffect q (effectOf e call))
+unfolding afterCall effectOf effect accepted senderAfterOffer storeAfterOffer senderAfterBlock
 stands-call (offer c priority repetition message) e q h =
     stands-offer-call (e .sender) (e .store) q h c priority repetition message
     (eqb (offerRefusal (e .sender) (e .store) c priority repetition message) 0) refl
 stands-call (block n u buffer y) e q h =
-    stands-block-call (e .sender) (e .store) q h u y (eqb (blockRefusal (e .sender) (e .store) buffer n u y) 0)
+    stands-block-call (e .sender) (e .store) q h n u buffer y (eqb (blockRefusal (e .sender) (e .store) buffer n u y) 0)
 
 Stands-afterCalls : (calls : List Call) (e : End) (q : Queues) → Stands (e .sender) (e .store) q
-    → Stands (afterCalls e calls .sender) (afterCalls e calls .store) (queuesAfter e q calls)
-unfolding afterCalls queuesAfter
+    → Stands (afterCalls e calls .sender) (afterCalls e calls .store) (queuesAfter q (effects e calls))
+unfolding afterCalls queuesAfter effects
 Stands-afterCalls [] e q h = h
-Stands-afterCalls (call ∷ calls) e q h = Stands-afterCalls calls (afterCall e call) (queuesAfterCall e q call) (stands-call call e q h)
+Stands-afterCalls (call ∷ calls) e q h =
+    Stands-afterCalls calls (afterCall e call) (queuesAfterEffect q (effectOf e call)) (stands-call call e q h)
 
 -- whatever the calls, record and store stand for the queues
 pub stands-calls : (bytes store : List ℕ) (calls : List Call) → listRefusal bytes ≡ 0
     → Stands (afterCalls (freshEnd bytes store) calls .sender) (afterCalls (freshEnd bytes store) calls .store)
-    (queuesAfter (freshEnd bytes store) (freshQueues (circuitsOf bytes)) calls)
+    (queuesAfter (freshQueues (circuitsOf bytes)) (effects (freshEnd bytes store) calls))
 stands-calls bytes store calls e =
     Stands-afterCalls calls (freshEnd bytes store) (freshQueues (circuitsOf bytes)) (stands-fresh bytes store e)
 
@@ -131,3 +140,37 @@ never-14 bytes store calls = go (eqb (listRefusal bytes) 0) refl
     go false e =
         Stands-afterCalls calls (freshEnd bytes store) (freshQueues [])
         (stands-refused bytes store (eqb-false (listRefusal bytes) 0 e)) .range
+
+-- ---- what the effects of calls keep to
+
+-- what holds of the effects of accepted calls and of nothing
+pub effectOf-cases : (P : Effect → Type 0) (call : Call) (e : End) → (accepted e call ≡ true → P (effect call)) → P noEffect → P (effectOf e call)
+unfolding effectOf
+effectOf-cases P call e taken refused = cond-either P (accepted e call) (effect call) noEffect taken (λ _. refused)
+
+-- a message is sent at a listed number, and has a priority and a length that the offer's refusals let pass
+unfoldable pub Right : Queues → Effect → Type 0
+Right q noEffect = Unit {0}
+Right q (sendsMessage c priority repetition message) = (c < length (q .queues)) × (priority ≤ 3) × (length message ≤ longest)
+Right q (takesFrames t) = Unit {0}
+
+unfoldable pub AllRight : Queues → List Effect → Type 0
+AllRight q [] = Unit {0}
+AllRight q (x ∷ xs) = Right q x × AllRight (queuesAfterEffect q x) xs
+
+right-accepted : (call : Call) (e : End) (q : Queues) → Stands (e .sender) (e .store) q → accepted e call ≡ true → Right q (effect call)
+unfolding accepted effect Right
+right-accepted (offer c priority repetition message) e q h a =
+    let f : OfferFacts (e .sender) (e .store) c priority repetition message =
+    offerRefusal-zero (e .sender) (e .store) c priority repetition message
+    (eqb-true (offerRefusal (e .sender) (e .store) c priority repetition message) 0 a) in
+    (omega (arith, f .circuit, h .count), f .priority, f .message)
+right-accepted (block n u buffer y) e q h a = tt
+
+pub right-calls : (calls : List Call) (e : End) (q : Queues) → Stands (e .sender) (e .store) q → AllRight q (effects e calls)
+unfolding effects Right AllRight
+right-calls [] e q h = tt
+right-calls (call ∷ calls) e q h = (
+  effectOf-cases (Right q) call e (right-accepted call e q h) tt,
+  right-calls calls (afterCall e call) (queuesAfterEffect q (effectOf e call)) (stands-call call e q h),
+)

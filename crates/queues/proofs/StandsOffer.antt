@@ -11,9 +11,11 @@ use lib.Dec.{ltb}
 use borrow.Author.Tests.{ltb-true, ltb-false}
 use Rattle.bits.proofs.Lists.{drop-sets-before, take-sets-behind, drop-sets-add}
 use Rattle.packet.specs.Circuits.{noCircuit}
+use Rattle.packet.specs.Messages.{longest}
+use Rattle.packet.specs.Stores.{region}
 use Rattle.offering.specs.declared.Slot.{Slot}
 use Rattle.offering.specs.declared.Sender.{Sender}
-use Rattle.offering.specs.Record.{region, slotAt, messageAt, inRange, slotInRange}
+use Rattle.offering.specs.Record.{slotAt, messageAt, inRange, slotInRange}
 use Rattle.offering.specs.Offering.{offerRefusal, offeredSender, offeredStore}
 use Rattle.offering.proofs.Ranges.{slotInRange-facts, facts-slotInRange, inRange-facts, facts-inRange, slotsInRange-set, slotInRange-slotAt}
 use Rattle.offering.proofs.Offers.{OfferFacts, offerRefusal-zero}
@@ -29,14 +31,14 @@ take-drop-sets v l i h =
     (take-append-seam v (drop (i + length v) l))
 
 -- regions: the message begins its own, and the others keep their first bytes
-module _ (store : List ℕ) (c : ℕ) (message : List ℕ) (fits : length message ≤ 4094) where
+module _ (store : List ℕ) (c : ℕ) (message : List ℕ) (fits : length message ≤ longest) where
   region-own : c < 4 → 16384 ≤ length store → take (length message) (drop (region * c) (offeredStore store c message)) ≡ message
-  unfolding offeredStore region
+  unfolding offeredStore region longest
   region-own four long = take-drop-sets message store (4096 * c) (omega arith)
 
-  region-other : (i n : ℕ) → (i ≡ c → ⊥) → n ≤ 4094
+  region-other : (i n : ℕ) → (i ≡ c → ⊥) → n ≤ longest
       → take n (drop (region * i) (offeredStore store c message)) ≡ take n (drop (region * i) store)
-  unfolding offeredStore region
+  unfolding offeredStore region longest
   region-other i n other small = go (ltb i c) refl
     where
       go : (b : Bool) → ltb i c ≡ b → take n (drop (4096 * i) (sets store (4096 * c) message)) ≡ take n (drop (4096 * i) store)

@@ -11,12 +11,14 @@ use lib.Seq.{getD-set-same, getD-set-other}
 use lib.Dec.{ltb, eqb}
 use borrow.Author.Tests.{ltb-true, ltb-false, eqb-true, eqb-false}
 use Rattle.packet.specs.Circuits.{noCircuit}
+use Rattle.packet.specs.Stores.{region}
 use Rattle.offering.specs.declared.Slot.{Slot}
 use Rattle.offering.specs.declared.Sender.{Sender}
-use Rattle.offering.specs.Record.{region, noSlot, slotAt, messageAt, pending, inRange}
+use Rattle.offering.specs.Record.{noSlot, slotAt, messageAt, pending, inRange}
 use Rattle.offering.proofs.Ranges.{inRange-facts, slotInRange-slotAt}
 use Rattle.picking.specs.Picking.{waitsAt, goingRound, firstWaiting, pickFrom, pick, advanced, served}
 use Rattle.picking.proofs.PickingLaws.{Picked, SlotPending, slotPending, pick-waits, served-in-range}
+use Rattle.writing.specs.PacketParts.{packetAt}
 use Rattle.writing.specs.NextFrame.{nextPacket}
 use Rattle.queues.specs.Queues.{Queue, Queues, freshQueue, queueAt, someWaits, frontHas, firstQueue, pickQueueFrom, pickQueue, behindFirst, behind, serveQueues}
 use Rattle.queues.specs.Stands.{StandsFor, Stands}
@@ -129,7 +131,7 @@ module _ (s : Sender) (store : List ℕ) (q : Queues) (h : Stands s store q) whe
     pub stands-first : queueAt q c .copies
         ≡ record { packet = nextPacket s store c; number = stood .done; priority = slotAt s c .priority }
         ∷ behindFirst (queueAt q c .copies)
-    unfolding nextPacket
+    unfolding nextPacket packetAt
     stands-first = StandsFor-first (getD (s .circuits .list) c noCircuit) (slotAt s c) (messageAt s store c) (queueAt q c) stood due
 
     -- and it "waits no more"

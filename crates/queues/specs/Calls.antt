@@ -1,17 +1,17 @@
--- Lists of offering and block calls, on the record and store as the calls' contracts say, and on the queues: "Records and stores go from call
--- to call .. A refused call sends and places nothing" (document 01, "What demand 3 counts").
-use Prim.Native.Nat.{ℕ, _-_}
-use mathlib.Core.Bool.{Bool, true, cond}
+-- Lists of offering and block calls, on the record and store as the calls' contracts say, and what they do to the queues: "Records and stores go
+-- from call to call .. A refused call sends and places nothing" (document 01, "What demand 3 counts").
+use Prim.Native.Nat.{ℕ}
+use mathlib.Core.Bool.{Bool, cond}
 use mathlib.Core.List.{List, [], _∷_, _++_}
-use lib.ListN.{length, take, replicate}
+use lib.ListN.{take}
 use lib.Dec.{eqb}
 use Rattle.bits.specs.Bits.{bitsOf}
 use Rattle.packet.specs.Circuits.{listing}
 use Rattle.offering.specs.declared.Sender.{Sender}
 use Rattle.offering.specs.Record.{fresh}
 use Rattle.offering.specs.Offering.{offerRefusal, senderAfterOffer, storeAfterOffer}
-use Rattle.sender.specs.Blocks.{System, enableBits, opening, blockRefusal, senderAfterBlock, bufferAfterBlock}
-use Rattle.queues.specs.Queues.{Queues, offerQueues, Placed, framesBits, takeFrames}
+use Rattle.sender.specs.Blocks.{System, systemPackets, enableBits, blockRefusal, senderAfterBlock, bufferAfterBlock}
+use Rattle.queues.specs.Effects.{Effect, noEffect, sendsMessage, takesFrames}
 
 -- a call: an offer of a message at a circuit number, or a block of N bits, of which U may be used, into a buffer
 pub data Call : Type 0 where
@@ -46,20 +46,18 @@ unfoldable pub afterCalls : End → List Call → End
 afterCalls e [] = e
 afterCalls e (call ∷ calls) = afterCalls (afterCall e call) calls
 
--- the queues after a call that is accepted
-unfoldable pub queuesAfterAccepted : Queues → Call → Queues
-queuesAfterAccepted q (offer c priority repetition message) = offerQueues q c priority repetition message
-queuesAfterAccepted q (block n u buffer y) = takeFrames q (length (opening y)) (enableBits y) u .queues
+-- what an accepted call does to the queues
+unfoldable pub effect : Call → Effect
+effect (offer c priority repetition message) = sendsMessage c priority repetition message
+effect (block n u buffer y) = takesFrames (record { size = n; before = systemPackets y; enable = enableBits y; usable = u })
 
--- the queues after calls, of which some are accepted
-unfoldable pub queuesAfterCall : End → Queues → Call → Queues
-queuesAfterCall e q call = cond (accepted e call) (queuesAfterAccepted q call) q
+-- "A refused call sends and places nothing"
+unfoldable pub effectOf : End → Call → Effect
+effectOf e call = cond (accepted e call) (effect call) noEffect
 
-unfoldable pub queuesAfter : End → Queues → List Call → Queues
-queuesAfter e q [] = q
-queuesAfter e q (call ∷ calls) = queuesAfter (afterCall e call) (queuesAfterCall e q call) calls
-
--- ---- the blocks
+unfoldable pub effects : End → List Call → List Effect
+effects e [] = []
+effects e (call ∷ calls) = effectOf e call ∷ effects (afterCall e call) calls
 
 -- "Each accepted block call gives the N bits of its block, as it leaves them": in the buffer that it was lent
 unfoldable pub made : End → Call → List (List Bool)
@@ -69,27 +67,3 @@ made e (block n u buffer y) = take n (bitsOf (bufferAfterBlock (e .sender) (e .s
 unfoldable pub blocksMade : End → List Call → List (List Bool)
 blocksMade e [] = []
 blocksMade e (call ∷ calls) = cond (accepted e call) (made e call) [] ++ blocksMade (afterCall e call) calls
-
--- a block by what is in it: N, the system packet or none, and the frames placed
-pub record TakenBlock : Type 0 where
-  pub size : ℕ
-  pub system : System
-  pub frames : List Placed
-
-unfoldable pub usedIn : TakenBlock → List Bool
-usedIn b = opening (b .system) ++ framesBits (b .frames)
-
--- its bits: "a flag; the system packet's frame and a flag, if one is wanted; then frames, each with a flag after it ..; then ones up to N"
-unfoldable pub bitsOfBlock : TakenBlock → List Bool
-bitsOfBlock b = usedIn b ++ replicate (b .size - length (usedIn b)) true
-
--- "An accepted block call places frames as the block rule says, each the first copy waiting at its circuit"
-unfoldable pub taken : Queues → Call → List TakenBlock
-taken q (offer c priority repetition message) = []
-taken q (block n u buffer y) =
-    record { size = n; system = y; frames = takeFrames q (length (opening y)) (enableBits y) u .frames } ∷ []
-
-unfoldable pub blocksTaken : End → Queues → List Call → List TakenBlock
-blocksTaken e q [] = []
-blocksTaken e q (call ∷ calls) =
-    cond (accepted e call) (taken q call) [] ++ blocksTaken (afterCall e call) (queuesAfterCall e q call) calls

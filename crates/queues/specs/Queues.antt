@@ -9,7 +9,7 @@ use lib.ListN.{length, getD, set, replicate}
 use lib.Dec.{leb, eqb}
 use Rattle.hdlc.specs.Frames.{flag, frame}
 use Rattle.packet.specs.declared.Circuit.{Circuit}
-use Rattle.packet.specs.Circuits.{noCircuit}
+use Rattle.packet.specs.Circuits.{alike, noCircuit}
 use Rattle.packet.specs.Messages.{packets, segment, linkOf}
 use Rattle.packet.specs.Packets.{packetOf}
 use Rattle.picking.specs.Picking.{enabled, goingRound, orElse}
@@ -41,6 +41,11 @@ freshQueues cs = record { queues = map freshQueue cs; last = 3 }
 unfoldable pub queueAt : Queues → ℕ → Queue
 queueAt q c = getD (q .queues) c (freshQueue noCircuit)
 
+-- the queue of a circuit: a fresh one where it is not listed
+unfoldable pub queueFor : List Queue → Circuit → Queue
+queueFor [] k = freshQueue k
+queueFor (q ∷ qs) k = cond (alike k (q .circuit)) q (queueFor qs k)
+
 -- ---- offering
 
 -- packet k of a message, where its circuit has sent `number` packets before it: "The index counts a circuit's packets modulo 8"
@@ -58,17 +63,30 @@ copiesFrom c priority message times number k zero = []
 copiesFrom c priority message times number k (suc n) =
     replicate times (copyOf c priority message number k) ++ copiesFrom c priority message times (suc number) (suc k) n
 
--- "Repetition 0 to 5 gives that many copies after the original": the copies of a message offered at a queue's circuit
-unfoldable pub messageCopies : Queue → ℕ → ℕ → List ℕ → List Copy
-messageCopies q priority repetition message =
-    copiesFrom (q .circuit) priority message (suc repetition) (q .sent) 0 (packets (length message))
+-- a message sent: its circuit, priority and repetition, its bytes, and the number of its first packet at its circuit
+pub record Message : Type 0 where
+  pub circuit : Circuit
+  pub priority : ℕ
+  pub repetition : ℕ
+  pub text : List ℕ
+  pub first : ℕ
 
--- the queue with these at its end
+-- "Repetition 0 to 5 gives that many copies after the original": the copies of a message
+unfoldable pub messageCopies : Message → List Copy
+messageCopies m =
+    copiesFrom (m .circuit) (m .priority) (m .text) (suc (m .repetition)) (m .first) 0 (packets (length (m .text)))
+
+-- the message that an offer sends at a queue's circuit, behind the packets sent there so far
+unfoldable pub messageFor : Queue → ℕ → ℕ → List ℕ → Message
+messageFor q priority repetition message =
+    record { circuit = q .circuit; priority = priority; repetition = repetition; text = message; first = q .sent }
+
+-- the queue with its copies at the end
 unfoldable pub offered : Queue → ℕ → ℕ → List ℕ → Queue
 offered q priority repetition message =
     record {
       circuit = q .circuit;
-      copies = q .copies ++ messageCopies q priority repetition message;
+      copies = q .copies ++ messageCopies (messageFor q priority repetition message);
       sent = q .sent + packets (length message);
     }
 
@@ -119,15 +137,6 @@ pub record Placed : Type 0 where
   pub circuit : Circuit
   pub copy : Copy
 
--- its bits, with the flag after it
-unfoldable pub placedBits : Placed → List Bool
-placedBits p = frame (p .copy .packet) ++ flag
-
--- the bits of frames, joined in order
-unfoldable pub framesBits : List Placed → List Bool
-framesBits [] = []
-framesBits (p ∷ ps) = placedBits p ++ framesBits ps
-
 -- what a block takes: the queues then, and the frames placed, in order
 pub record Taken : Type 0 where
   pub queues : Queues
@@ -143,9 +152,8 @@ andTaken p t = record { queues = t .queues; frames = p ∷ t .frames }
 unfoldable pub takingFirst : List Copy → Queues → ℕ → ℕ → ℕ → (ℕ → Taken) → Taken
 takingFirst [] q c at u later = takenNone q
 takingFirst (copy ∷ copies) q c at u later =
-    let p : Placed = record { circuit = queueAt q c .circuit; copy = copy } in
-    let more = andTaken p (later (at + length (placedBits p))) in
-    cond (leb (at + length (placedBits p)) u) more (takenNone q)
+    let next : ℕ = at + length (frame (copy .packet) ++ flag) in
+    cond (leb next u) (andTaken (record { circuit = queueAt q c .circuit; copy = copy }) (later next)) (takenNone q)
 
 unfoldable pub taking : Option ℕ → Queues → ℕ → ℕ → (ℕ → ℕ → Taken) → Taken
 taking none q at u later = takenNone q

@@ -1,25 +1,24 @@
--- What lists of calls send at a circuit, and what counting its packets means (document 01, "Messages and packets" and "What demand 3 counts").
-use Prim.Native.Nat.{ℕ, suc, _/_, _%_}
+-- What is sent and placed at a circuit, and what counting its packets means (document 01, "Messages and packets" and "What demand 3 counts").
+use Prim.Native.Nat.{ℕ, suc, _%_}
 use mathlib.Core.Bool.{cond}
 use mathlib.Core.List.{List, [], _∷_, _++_}
 use mathlib.Core.Path.{_≡_}
-use lib.ListN.{getD, replicate}
-use lib.Dec.{eqb}
+use lib.ListN.{replicate}
 use Rattle.packet.specs.declared.Circuit.{Circuit}
 use Rattle.packet.specs.Circuits.{alike}
-use Rattle.queues.specs.Queues.{Copy, Queues, queueAt, messageCopies, Placed}
-use Rattle.queues.specs.Calls.{Call, offer, block, End, accepted, afterCall, queuesAfterCall, TakenBlock}
+use Rattle.packet.specs.Lists.{those}
+use Rattle.parsing.specs.Packets.{index}
+use Rattle.queues.specs.Queues.{Copy, Message, messageCopies, Placed}
+use Rattle.queues.specs.Effects.{TakenBlock}
 
--- "An accepted offer sends its message at its circuit: all copies of its packets": those that a call sends at circuit number c
-unfoldable pub sends : Queues → Call → ℕ → List Copy
-sends q (offer d priority repetition message) c = cond (eqb d c) (messageCopies (queueAt q c) priority repetition message) []
-sends q (block n u buffer y) c = []
+-- the messages that are a circuit's, in order
+unfoldable pub messagesAt : Circuit → List Message → List Message
+messagesAt k ms = those (λ (m : Message). alike k (m .circuit)) ms
 
--- those that calls send there, in order
-unfoldable pub copiesSent : End → Queues → List Call → ℕ → List Copy
-copiesSent e q [] c = []
-copiesSent e q (call ∷ calls) c =
-    cond (accepted e call) (sends q call c) [] ++ copiesSent (afterCall e call) (queuesAfterCall e q call) calls c
+-- the copies of messages, joined in order
+unfoldable pub copiesSent : List Message → List Copy
+copiesSent [] = []
+copiesSent (m ∷ ms) = messageCopies m ++ copiesSent ms
 
 -- the copies of frames placed that are a circuit's, in order
 unfoldable pub placedAt : Circuit → List Placed → List Copy
@@ -41,14 +40,10 @@ unfoldable pub copiesOf : List Sent → List Copy
 copiesOf [] = []
 copiesOf (p ∷ ps) = replicate (suc (p .repetition)) (p .original) ++ copiesOf ps
 
--- "A4 A3 A2 continuity index" of the control byte
-unfoldable pub indexIn : List ℕ → ℕ
-indexIn packet = getD packet 1 0 / 4 % 8
-
 -- "The index counts a circuit's packets modulo 8": the first packet has number n, and each one's index is its number modulo 8
 unfoldable pub Numbered : ℕ → List Sent → Type 0
 Numbered n [] = Unit {0}
-Numbered n (p ∷ ps) = (p .original .number ≡ n) × (indexIn (p .original .packet) ≡ n % 8) × Numbered (suc n) ps
+Numbered n (p ∷ ps) = (p .original .number ≡ n) × (index (p .original .packet) ≡ n % 8) × Numbered (suc n) ps
 
 -- the copies are those of packets counted from n on
 pub record Counted (n : ℕ) (all : List Copy) : Type 0 where

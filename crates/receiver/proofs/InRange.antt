@@ -1,10 +1,9 @@
 -- Calls leave receivers in range: a fresh one is, and so is what a packet or a read leaves. So no reading call is refused with 14 whose receiver comes
 -- from a listing and reading calls.
-use Prim.Native.Nat.{ℕ, _*_, _<_}
+use Prim.Native.Nat.{ℕ, _*_}
 use mathlib.Core.Bool.{Bool, true, false, cond, _&&_, _||_}
 use mathlib.Core.List.{List, [], _∷_}
-use mathlib.Core.Option.{Option, none, some}
-use mathlib.Core.Path.{_≡_, refl, ap}
+use mathlib.Core.Path.{_≡_, refl}
 use native.Mathlib.Omega.{arith}
 use lib.ListN.{length, take}
 use lib.Seq.{slice}
@@ -15,6 +14,7 @@ use Rattle.bits.proofs.Bits.{Bytes-take}
 use Rattle.bits.proofs.Tests.{and-left, and-right}
 use Rattle.packet.specs.Circuits.{circuitsRefusal, listed, listing}
 use Rattle.packet.proofs.CircuitLists.{listing-count, listing-refusal}
+use Rattle.packet.proofs.Choices.{cond-either}
 use Rattle.framing.specs.declared.Framing.{Framing}
 use Rattle.framing.specs.declared.Check.{Check}
 use Rattle.framing.specs.declared.Check.the-variants.{Packet, Spoilt, Nothing}
@@ -22,14 +22,14 @@ use Rattle.framing.specs.declared.Scan.{Scan}
 use Rattle.framing.specs.Range.{inRange as framingInRange}
 use Rattle.framing.proofs.ScanInRange.{Array21, Array21-fresh, Arrays, Arrays-scan, scan-in-range}
 use Rattle.framing.proofs.ScanInRange.{fresh-in-range as framing-fresh-in-range}
-use Rattle.receiver.specs.declared.Slot.{Slot}
+use Rattle.notices.specs.Slots.{slotsInRange}
+use Rattle.notices.specs.Stores.{storeLength}
+use Rattle.notices.proofs.SlotsInRange.{replicate-slotsInRange}
+use Rattle.notices.proofs.Hearings.{heard-slots-in-range}
 use Rattle.receiver.specs.declared.Receiver.{Receiver}
-use Rattle.receiver.specs.Record.{storeLength, fresh, slotAt, slotInRange, slotsInRange, inRange}
-use Rattle.receiver.specs.Packets.{address, circuitIn, malformed, numberFrom}
-use Rattle.receiver.specs.Notices.{Heard, withSlot, heardAt, heardBy, systemHeard, heard}
-use Rattle.receiver.specs.Reading.{withFraming, noticed, readBy, readScan, readRefusal, receiverAfterRead}
+use Rattle.receiver.specs.Record.{fresh, inRange}
+use Rattle.receiver.specs.Reading.{withFraming, Noticed, passed, noticed, readBy, readScan, readRefusal, receiverAfterRead}
 use Rattle.receiver.specs.Reads.{ReadCall, ReceiverEnd, freshReceiverEnd, afterRead, afterReads}
-use Rattle.receiver.proofs.SlotsInRange.{cond-either, replicate-slotsInRange, getD-slotsInRange, set-slotsInRange, slotAfter-in-range}
 
 -- a record in range, by its parts
 pub record Parts (r : Receiver) : Type 0 where
@@ -68,55 +68,25 @@ fresh-in-range bytes =
 
 -- ---- a packet
 
--- another slot
-withSlot-in-range : (r : Receiver) (c : ℕ) (u : Slot) → (c < r .circuits .count → slotInRange u ≡ true) → inRange r ≡ true
-    → inRange (withSlot r c u) ≡ true
-unfolding withSlot
-withSlot-in-range r c u h e =
+pub passed-in-range : (r : Receiver) (store p : List ℕ) → Bytes p → inRange r ≡ true → inRange (passed r store p .receiver) ≡ true
+unfolding passed
+passed-in-range r store p b e =
     let k = inRange-parts r e in
-    parts-inRange (withSlot r c u)
+    parts-inRange (passed r store p .receiver)
     (record {
       count = k .count;
       circuits = k .circuits;
-      slots = set-slotsInRange (r .circuits .count) (r .slots) c u h (k .slots);
+      slots = heard-slots-in-range (r .circuits) (r .slots) (k .slots) p b;
       framing = k .framing;
     })
 
-heardBy-in-range : (n : Option ℕ) (r : Receiver) (store p : List ℕ) → Bytes p → inRange r ≡ true
-    → inRange (heardBy n r store p .receiver) ≡ true
-unfolding heardBy heardAt slotAt
-heardBy-in-range none r store p b e = e
-heardBy-in-range (some c) r store p b e =
-    withSlot-in-range r c _
-    (λ h. slotAfter-in-range (slotAt r c) p b (getD-slotsInRange (r .circuits .count) (r .slots) c h (inRange-parts r e .slots))) e
-
-pub heard-in-range : (r : Receiver) (store p : List ℕ) → Bytes p → inRange r ≡ true → inRange (heard r store p .receiver) ≡ true
-unfolding heard systemHeard
-heard-in-range r store p b e =
-    cond-either (λ (h : Heard). inRange (h .receiver) ≡ true) (malformed p) _ _ (λ _. e)
-    (λ _. cond-either (λ (h : Heard). inRange (h .receiver) ≡ true) (eqb (address p) 0xff) _ _ (λ _. e)
-    (λ _. heardBy-in-range (numberFrom (listed (r .circuits)) (circuitIn p) 0) r store p b e))
-
 -- a packet does not look at the framing: what it leaves and tells, with another framing left
-unfoldable pub withFramingLeft : Heard → Framing → Heard
-withFramingLeft h f = record { receiver = withFraming (h .receiver) f; store = h .store; notice = h .notice; first = h .first }
+unfoldable pub withFramingLeft : Noticed → Framing → Noticed
+withFramingLeft h f = record { receiver = withFraming (h .receiver) f; store = h .store; notice = h .notice }
 
-heardBy-withFraming : (n : Option ℕ) (r : Receiver) (f : Framing) (store p : List ℕ)
-    → heardBy n (withFraming r f) store p ≡ withFramingLeft (heardBy n r store p) f
-unfolding heardBy heardAt withSlot slotAt withFraming withFramingLeft
-heardBy-withFraming none r f store p = refl
-heardBy-withFraming (some c) r f store p = refl
-
-pub heard-withFraming : (r : Receiver) (f : Framing) (store p : List ℕ) → heard (withFraming r f) store p ≡ withFramingLeft (heard r store p) f
-unfolding heard systemHeard withFraming withFramingLeft
-heard-withFraming r f store p =
-    rw (heardBy-withFraming (numberFrom (listed (r .circuits)) (circuitIn p) 0) r f store p) (go (malformed p) (eqb (address p) 0xff) _ _ _)
-  where
-    go : (a b : Bool) (x y z : Heard)
-        → cond a (withFramingLeft x f) (cond b (withFramingLeft y f) (withFramingLeft z f)) ≡ withFramingLeft (cond a x (cond b y z)) f
-    go true b x y z = refl
-    go false true x y z = refl
-    go false false x y z = refl
+pub passed-withFraming : (r : Receiver) (f : Framing) (store p : List ℕ) → passed (withFraming r f) store p ≡ withFramingLeft (passed r store p) f
+unfolding passed withFraming withFramingLeft
+passed-withFraming r f store p = refl
 
 -- ---- a reading call
 
@@ -130,13 +100,13 @@ withFraming-in-range r f h e =
 noticed-in-range : (c : Check) (bytes : List ℕ) (r : Receiver) (store : List ℕ) → Bytes bytes → inRange r ≡ true
     → inRange (noticed c bytes r store .receiver) ≡ true
 unfolding noticed
-noticed-in-range (Packet n) bytes r store b e = heard-in-range r store (take n bytes) (Bytes-take n bytes b) e
+noticed-in-range (Packet n) bytes r store b e = passed-in-range r store (take n bytes) (Bytes-take n bytes b) e
 noticed-in-range Spoilt bytes r store b e = e
 noticed-in-range Nothing bytes r store b e = e
 
 pub noticed-framing : (c : Check) (bytes : List ℕ) (r : Receiver) (store : List ℕ) → noticed c bytes r store .receiver .framing ≡ r .framing
-unfolding noticed withFraming withFramingLeft
-noticed-framing (Packet n) bytes r store = ap (λ (h : Heard). h .receiver .framing) (heard-withFraming r (r .framing) store (take n bytes))
+unfolding noticed passed
+noticed-framing (Packet n) bytes r store = refl
 noticed-framing Spoilt bytes r store = refl
 noticed-framing Nothing bytes r store = refl
 

@@ -2,57 +2,30 @@
 use Prim.Native.Nat.{ℕ, _≤_}
 use mathlib.Core.Bool.{Bool, true, false}
 use mathlib.Core.List.{List, [], _∷_}
-use mathlib.Core.Option.{Option, none, some}
 use mathlib.Core.Path.{_≡_, refl, ap}
 use native.Mathlib.Omega.{arith}
 use lib.ListN.{length, take}
-use lib.Seq.{length-sets}
 use lib.Dec.{eqb}
 use borrow.Author.Tests.{le-ltb}
 use Rattle.bits.specs.Bits.{byteBits, lowBits, odd, bitsOf, bitValue}
-use Rattle.packet.specs.Circuits.{listed}
+use Rattle.packet.proofs.Choices.{cond-either}
 use Rattle.framing.specs.declared.Check.{Check}
 use Rattle.framing.specs.declared.Check.the-variants.{Packet, Spoilt, Nothing}
 use Rattle.framing.proofs.Scanned.{scan-between}
 use Rattle.framing.proofs.ScanInRange.{Array21, Array21-fresh}
-use Rattle.receiver.specs.declared.Slot.{Slot}
+use Rattle.notices.specs.Stores.{storeLength}
+use Rattle.notices.proofs.StoreLaws.{length-storeAfterNotice}
 use Rattle.receiver.specs.declared.Receiver.{Receiver}
-use Rattle.receiver.specs.declared.Fate.{Fate}
-use Rattle.receiver.specs.declared.Fate.the-variants.{Copy, Begun, Held, Whole, Orphan, Wrong}
-use Rattle.receiver.specs.Record.{storeLength, fresh, slotAt, inRange}
-use Rattle.receiver.specs.Packets.{address, circuitIn, malformed, numberFrom}
-use Rattle.receiver.specs.Notices.{Heard, storeAfter, fateOf, heardAt, heardBy, systemHeard, heard}
-use Rattle.receiver.specs.Reading.{noticed, withFraming, readBy, readScan, readRefusal, storeAfterRead, bitsRead}
+use Rattle.receiver.specs.Record.{fresh, inRange}
+use Rattle.receiver.specs.Reading.{passed, noticed, withFraming, readBy, readScan, readRefusal, storeAfterRead, bitsRead}
 use Rattle.receiver.specs.Reads.{ReadCall, ReceiverEnd, freshReceiverEnd, afterRead, bitsOfRead, bitsOfReads}
-use Rattle.receiver.proofs.SlotsInRange.{cond-either}
 use Rattle.receiver.proofs.InRange.{fresh-in-range, read-in-range, read-array}
 
 -- ---- a store keeps its length
 
-length-storeAfter : (f : Fate) (c : ℕ) (t : Slot) (p store : List ℕ) → length (storeAfter f c t p store) ≡ length store
-unfolding storeAfter
-length-storeAfter Copy c t p store = refl
-length-storeAfter Begun c t p store = rw length-sets
-length-storeAfter Held c t p store = rw length-sets
-length-storeAfter (Whole n) c t p store = rw length-sets
-length-storeAfter Orphan c t p store = refl
-length-storeAfter Wrong c t p store = search length-sets
-
-length-heardBy : (n : Option ℕ) (r : Receiver) (store p : List ℕ) → length (heardBy n r store p .store) ≡ length store
-unfolding heardBy heardAt
-length-heardBy none r store p = refl
-length-heardBy (some c) r store p = length-storeAfter (fateOf (slotAt r c) p) c (slotAt r c) p store
-
-length-heard : (r : Receiver) (store p : List ℕ) → length (heard r store p .store) ≡ length store
-unfolding heard systemHeard
-length-heard r store p =
-    cond-either (λ (h : Heard). length (h .store) ≡ length store) (malformed p) _ _ (λ _. refl)
-    (λ _. cond-either (λ (h : Heard). length (h .store) ≡ length store) (eqb (address p) 0xff) _ _ (λ _. rw length-sets)
-    (λ _. length-heardBy (numberFrom (listed (r .circuits)) (circuitIn p) 0) r store p))
-
 length-noticed : (c : Check) (bytes : List ℕ) (r : Receiver) (store : List ℕ) → length (noticed c bytes r store .store) ≡ length store
-unfolding noticed
-length-noticed (Packet n) bytes r store = length-heard r store (take n bytes)
+unfolding noticed passed
+length-noticed (Packet n) bytes r store = length-storeAfterNotice _ _ _ store
 length-noticed Spoilt bytes r store = refl
 length-noticed Nothing bytes r store = refl
 

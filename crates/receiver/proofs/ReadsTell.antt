@@ -3,7 +3,7 @@
 use Prim.Native.Nat.{ℕ, zero, suc, _+_, _-_, _≤_}
 use native.Mathlib.Omega.{arith}
 use mathlib.Core.Bool.{Bool, true, false, cond}
-use mathlib.Core.List.{List, [], _∷_, _++_, map, map-append}
+use mathlib.Core.List.{List, [], _∷_, _++_, map, map-append, append-assoc, append-nil}
 use mathlib.Core.Option.{Option, none, some}
 use mathlib.Core.Path.{_≡_, refl, sym, ap, _∙_}
 use lib.ListN.{length, take, drop, length-take}
@@ -11,7 +11,12 @@ use lib.Seq.{slice, take-nil, take-take}
 use lib.Dec.{eqb}
 use Rattle.bits.specs.Bits.{bitsOf}
 use Rattle.hdlc.specs.Bodies.{Body, Judged, passes, spoilt, nothing, bodies, void, judge}
-use Rattle.packet.specs.Circuits.{listed, listing}
+use Rattle.packet.specs.Circuits.{listed, listing, numberFrom}
+use Rattle.packet.proofs.Choices.{cond-either}
+use Rattle.parsing.specs.Packets.{address, circuitIn, malformed}
+use Rattle.notices.specs.declared.Slot.{Slot}
+use Rattle.notices.specs.declared.Hearing.{Hearing}
+use Rattle.notices.specs.Heard.{heardAt, heardBy, systemHeard, heard}
 use Rattle.framing.specs.declared.Framing.{Framing}
 use Rattle.framing.specs.declared.Check.{Check}
 use Rattle.framing.specs.declared.Check.the-variants.{Packet, Nothing}
@@ -28,13 +33,10 @@ use Rattle.framing.proofs.Scanned.{scan-least, scan-most}
 use Rattle.framing.proofs.ScanFindsFirst.{take-behind, scan-leaves}
 use Rattle.receiver.specs.declared.Receiver.{Receiver}
 use Rattle.receiver.specs.Record.{fresh}
-use Rattle.receiver.specs.Packets.{address, circuitIn, malformed, numberFrom}
-use Rattle.receiver.specs.Notices.{Heard, heardAt, heardBy, systemHeard, heard}
-use Rattle.receiver.specs.Reading.{withFraming, noticed, readBy, readScan, receiverAfterRead, storeAfterRead, bitsRead}
-use Rattle.receiver.specs.Reads.{ReadCall, ReceiverEnd, freshReceiverEnd, acceptedRead, afterRead, afterReads, bitsOfRead, bitsOfReads}
-use Rattle.receiver.specs.Reads.{Told, told, toldByReads, toldByJudged, toldByBodies, isEnd, notEnd}
-use Rattle.receiver.proofs.SlotsInRange.{cond-either}
-use Rattle.receiver.proofs.InRange.{withFramingLeft, heard-withFraming, noticed-framing}
+use Rattle.receiver.specs.declared.Read.the-variants.{Told, Refused}
+use Rattle.receiver.specs.Reading.{withFraming, Noticed, passed, noticed, readBy, readScan, readRefusal, receiverAfterRead, storeAfterRead, bitsRead, readOf, answerToRead}
+use Rattle.receiver.specs.Reads.{ReadCall, ReceiverEnd, freshReceiverEnd, afterRead, afterReads, bitsOfRead, bitsOfReads, Report, reportOf, told, toldByReads, toldByJudged, toldByBodies, isEnd, notEnd}
+use Rattle.receiver.proofs.InRange.{withFramingLeft, passed-withFraming, noticed-framing}
 
 -- ---- what closed bodies give
 
@@ -42,7 +44,7 @@ abbrev pub gives : List Closing → List Judged
 gives cs = map (λ (c : Closing). c .gives) cs
 
 -- it is the same wherever the bits are counted from
-gives-from : (bits : List Bool) (f : Framing) (m n : ℕ) → gives (closings f m bits) ≡ gives (closings f n bits)
+pub gives-from : (bits : List Bool) (f : Framing) (m n : ℕ) → gives (closings f m bits) ≡ gives (closings f n bits)
 unfolding closings closed
 gives-from [] f m n = refl
 gives-from (b ∷ bits) f m n = go (closes f b) (gives-from bits (step f b) (suc m) (suc n))
@@ -53,7 +55,7 @@ gives-from (b ∷ bits) f m n = go (closes f b) (gives-from bits (step f b) (suc
     go true later = ap (λ js. givenBy (check f) (f .bits) ∷ js) later
     go false later = later
 
-gives-append : (a b : List Bool) (f : Framing) → gives (closings f 0 (a ++ b)) ≡ gives (closings f 0 a) ++ gives (closings (run f a) 0 b)
+pub gives-append : (a b : List Bool) (f : Framing) → gives (closings f 0 (a ++ b)) ≡ gives (closings f 0 a) ++ gives (closings (run f a) 0 b)
 gives-append a b f =
     rw (
       closings-append a b f 0,
@@ -104,7 +106,7 @@ scan-tells (b ∷ bits) f at = go (closes f b) refl (scan-tells bits (step f b) 
     go false e h = quiet-tells f at b bits later (scan-least bits (step f b) (suc at)) h e
 
 -- the front of a part
-take-slice : {A : Type 0} (from to n : ℕ) (l : List A) → n ≤ length (slice from to l) → take n (slice from to l) ≡ take n (drop from l)
+pub take-slice : {A : Type 0} (from to n : ℕ) (l : List A) → n ≤ length (slice from to l) → take n (slice from to l) ≡ take n (drop from l)
 take-slice zero to n l h = take-take n to l (omega (arith, length-take to l))
 take-slice (suc from) zero n l h = let e : n ≡ 0 = omega arith in rw e
 take-slice (suc from) (suc to) n [] h = refl
@@ -125,26 +127,26 @@ toldByJudged-withFraming : (js : List Judged) (r : Receiver) (f : Framing) (stor
 unfolding toldByJudged withFramingLeft
 toldByJudged-withFraming [] r f store = refl
 toldByJudged-withFraming (passes p ∷ js) r f store =
-    rw (heard-withFraming r f store p, toldByJudged-withFraming js (heard r store p .receiver) f (heard r store p .store))
+    rw (passed-withFraming r f store p, toldByJudged-withFraming js (passed r store p .receiver) f (passed r store p .store))
 toldByJudged-withFraming (spoilt ∷ js) r f store = rw (toldByJudged-withFraming js r f store)
 toldByJudged-withFraming (nothing ∷ js) r f store = toldByJudged-withFraming js r f store
 
 -- and is not End
-heardBy-tells : (n : Option ℕ) (r : Receiver) (store p : List ℕ) → isEnd (heardBy n r store p .notice) ≡ false
+heardBy-tells : (n : Option ℕ) (slots : List Slot) (p : List ℕ) → isEnd (heardBy n slots p .notice) ≡ false
 unfolding heardBy heardAt isEnd
-heardBy-tells none r store p = refl
-heardBy-tells (some c) r store p = refl
+heardBy-tells none slots p = refl
+heardBy-tells (some c) slots p = refl
 
-heard-tells : (r : Receiver) (store p : List ℕ) → isEnd (heard r store p .notice) ≡ false
-unfolding heard systemHeard isEnd
-heard-tells r store p =
-    cond-either (λ (h : Heard). isEnd (h .notice) ≡ false) (malformed p) _ _ (λ _. refl)
-    (λ _. cond-either (λ (h : Heard). isEnd (h .notice) ≡ false) (eqb (address p) 0xff) _ _ (λ _. refl)
-    (λ _. heardBy-tells (numberFrom (listed (r .circuits)) (circuitIn p) 0) r store p))
+pub passed-tells : (r : Receiver) (store p : List ℕ) → isEnd (passed r store p .notice) ≡ false
+unfolding passed heard systemHeard isEnd
+passed-tells r store p =
+    cond-either (λ (h : Hearing). isEnd (h .notice) ≡ false) (malformed p) _ _ (λ _. refl)
+    (λ _. cond-either (λ (h : Hearing). isEnd (h .notice) ≡ false) (eqb (address p) 0xff) _ _ (λ _. refl)
+    (λ _. heardBy-tells (numberFrom (listed (r .circuits)) (circuitIn p) 0) (r .slots) p))
 
 -- ---- a reading call
 
-notEnd-append : (a b : List Told) → notEnd (a ++ b) ≡ notEnd a ++ notEnd b
+notEnd-append : (a b : List Report) → notEnd (a ++ b) ≡ notEnd a ++ notEnd b
 unfolding notEnd
 notEnd-append [] b = refl
 notEnd-append (t ∷ a) b = rw (notEnd-append a b) (go (isEnd (t .notice)))
@@ -159,7 +161,7 @@ noticed-tells : (c : Check) (bytes : List ℕ) (r : Receiver) (store : List ℕ)
     toldByJudged r store (givenBy c bytes ∷ js)
     ≡ notEnd (record { notice = h .notice; store = h .store } ∷ []) ++ toldByJudged (h .receiver) (h .store) js)
 unfolding noticed toldByJudged givenBy notEnd isEnd
-noticed-tells (Packet n) bytes r store js = rw (heard-tells r store (take n bytes))
+noticed-tells (Packet n) bytes r store js = rw (passed-tells r store (take n bytes))
 noticed-tells SpoiltBody bytes r store js = refl
 noticed-tells Nothing bytes r store js = refl
 
@@ -174,13 +176,13 @@ module _ (e : ReceiverEnd) (c : ReadCall) where
   abbrev s : Scan
   s = scan (r .framing) (c .from) part
 
-  abbrev h : Heard
+  abbrev h : Noticed
   h = noticed (s .check) (s .bytes) (withFraming r (s .framing)) (e .store)
 
   -- it leaves the framing that the bits it reads leave
   read-leaves : afterRead e c .receiver .framing ≡ run (r .framing) (bitsOfRead e c)
-  unfolding acceptedRead afterRead receiverAfterRead bitsOfRead bitsRead readScan readBy withFraming run
-  read-leaves = go (acceptedRead e c)
+  unfolding afterRead receiverAfterRead bitsOfRead bitsRead readScan readBy withFraming run
+  read-leaves = go (eqb (readRefusal (e .receiver) (e .store) (c .bytes) (c .from) (c .to)) 0)
     where
       go : (t : Bool) → cond t (h .receiver) r .framing ≡ run (r .framing) (take (cond t (s .at - c .from) 0) (drop (c .from) (bitsOf (c .bytes))))
       go false = refl
@@ -189,15 +191,16 @@ module _ (e : ReceiverEnd) (c : ReadCall) where
           (scan-leaves part (r .framing) (c .from))
 
   -- and tells what the bodies in these bits tell, with bodies behind them
-  read-tells : (js : List Judged)
+  pub read-tells : (js : List Judged)
       → toldByJudged r (e .store) (gives (closings (r .framing) 0 (bitsOfRead e c)) ++ js)
       ≡ notEnd (told e c) ++ toldByJudged (afterRead e c .receiver) (afterRead e c .store) js
-  unfolding told acceptedRead afterRead receiverAfterRead storeAfterRead bitsOfRead bitsRead readScan readBy closings notEnd Tells
-  read-tells js = go (acceptedRead e c)
+  unfolding told reportOf answerToRead readOf afterRead receiverAfterRead storeAfterRead bitsOfRead bitsRead readScan readBy closings notEnd Tells
+  read-tells js = go (eqb (readRefusal (e .receiver) (e .store) (c .bytes) (c .from) (c .to)) 0)
     where
       go : (t : Bool)
           → toldByJudged r (e .store) (gives (closings (r .framing) 0 (take (cond t (s .at - c .from) 0) (drop (c .from) (bitsOf (c .bytes))))) ++ js)
-          ≡ notEnd (cond t (record { notice = h .notice; store = h .store } ∷ []) []) ++ toldByJudged (cond t (h .receiver) r) (cond t (h .store) (e .store)) js
+          ≡ notEnd (reportOf (cond t (Told (h .notice)) (Refused (readRefusal r (e .store) (c .bytes) (c .from) (c .to)))) (cond t (h .store) (e .store)))
+          ++ toldByJudged (cond t (h .receiver) r) (cond t (h .store) (e .store)) js
       go false = refl
       go true =
           rw (
@@ -210,20 +213,32 @@ module _ (e : ReceiverEnd) (c : ReadCall) where
 
 -- ---- reading calls
 
--- they tell what the bodies tell that the machine closes in the bits they read
-pub reads-tell : (reads : List ReadCall) (e : ReceiverEnd)
-    → notEnd (toldByReads e reads) ≡ toldByJudged (e .receiver) (e .store) (gives (closings (e .receiver .framing) 0 (bitsOfReads e reads)))
-unfolding toldByReads bitsOfReads closings notEnd toldByJudged
-reads-tell [] e = refl
-reads-tell (c ∷ cs) e =
+-- they tell what the bodies tell that the machine closes in the bits they read, with bodies behind them
+pub reads-tell-then : (reads : List ReadCall) (e : ReceiverEnd) (js : List Judged)
+    → toldByJudged (e .receiver) (e .store) (gives (closings (e .receiver .framing) 0 (bitsOfReads e reads)) ++ js)
+    ≡ notEnd (toldByReads e reads) ++ toldByJudged (afterReads e reads .receiver) (afterReads e reads .store) js
+unfolding toldByReads bitsOfReads afterReads closings notEnd
+reads-tell-then [] e js = refl
+reads-tell-then (c ∷ cs) e js =
     let e′ : ReceiverEnd = afterRead e c in
+    let later : List Judged = gives (closings (e′ .receiver .framing) 0 (bitsOfReads e′ cs)) in
     rw (
-      notEnd-append (told e c) (toldByReads e′ cs),
-      reads-tell cs e′,
       gives-append (bitsOfRead e c) (bitsOfReads e′ cs) (e .receiver .framing),
       ← read-leaves e c,
+      append-assoc (gives (closings (e .receiver .framing) 0 (bitsOfRead e c))) later js,
+      read-tells e c (later ++ js),
+      reads-tell-then cs e′ js,
+      notEnd-append (told e c) (toldByReads e′ cs),
+      append-assoc (notEnd (told e c)) (notEnd (toldByReads e′ cs)),
     )
-    (sym (read-tells e c (gives (closings (e′ .receiver .framing) 0 (bitsOfReads e′ cs)))))
+
+pub reads-tell : (reads : List ReadCall) (e : ReceiverEnd)
+    → notEnd (toldByReads e reads) ≡ toldByJudged (e .receiver) (e .store) (gives (closings (e .receiver .framing) 0 (bitsOfReads e reads)))
+unfolding toldByJudged
+reads-tell reads e =
+    let all : List Judged = gives (closings (e .receiver .framing) 0 (bitsOfReads e reads)) in
+    sym (append-nil (notEnd (toldByReads e reads))) ∙ sym (reads-tell-then reads e [])
+    ∙ ap (toldByJudged (e .receiver) (e .store)) (append-nil all)
 
 -- and leave the framing that these bits leave
 afterReads-leaves : (reads : List ReadCall) (e : ReceiverEnd) → afterReads e reads .receiver .framing ≡ run (e .receiver .framing) (bitsOfReads e reads)
@@ -237,7 +252,7 @@ afterReads-leaves (c ∷ cs) e =
 -- behind a body, too, they tell the same
 tell-more : (j : Judged) (js ks : List Judged) → TellSame js ks → TellSame (j ∷ js) (j ∷ ks)
 unfolding toldByJudged
-tell-more (passes p) js ks later = λ r store. rw (later (heard r store p .receiver) (heard r store p .store))
+tell-more (passes p) js ks later = λ r store. rw (later (passed r store p .receiver) (passed r store p .store))
 tell-more spoilt js ks later = λ r store. rw (later r store)
 tell-more nothing js ks later = later
 
@@ -255,17 +270,20 @@ notVoid-tell (b ∷ bs) = go (void (b .bits)) refl (notVoid-tell bs)
     go true e later = rw (void-gives-nothing (b .bits) e) later
     go false e later = tell-more (judge (b .bits)) (gives (map closingOf (notVoid bs))) js later
 
+-- what declared bodies tell, by those that the machine closes
+pub bodies-tell : (bits : List Bool) (r : Receiver) (store : List ℕ) → toldByJudged r store (gives (closings freshFraming 0 bits)) ≡ toldByBodies r store (bodies bits)
+unfolding toldByBodies
+bodies-tell bits r store = ap (λ cs. toldByJudged r store (gives cs)) (framing-finds-bodies bits) ∙ notVoid-tell (bodies bits) r store
+
 -- ---- from a fresh receiver on
 
 pub reads-tell-bodies : (list store : List ℕ) (reads : List ReadCall)
     → notEnd (toldByReads (freshReceiverEnd list store) reads)
     ≡ toldByBodies (fresh (listing list)) store (bodies (bitsOfReads (freshReceiverEnd list store) reads))
-unfolding fresh toldByBodies
+unfolding fresh
 reads-tell-bodies list store reads =
     let e : ReceiverEnd = freshReceiverEnd list store in
-    reads-tell reads e
-    ∙ ap (λ cs. toldByJudged (e .receiver) store (gives cs)) (framing-finds-bodies (bitsOfReads e reads))
-    ∙ notVoid-tell (bodies (bitsOfReads e reads)) (e .receiver) store
+    reads-tell reads e ∙ bodies-tell (bitsOfReads e reads) (e .receiver) store
 
 pub reads-leave : (list store : List ℕ) (reads : List ReadCall)
     → afterReads (freshReceiverEnd list store) reads .receiver .framing ≡ run freshFraming (bitsOfReads (freshReceiverEnd list store) reads)

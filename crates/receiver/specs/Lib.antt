@@ -1,7 +1,5 @@
--- The definitions of `receiver`: the record and its range, a packet taken apart, what becomes of it, and reading.
+-- The definitions of `receiver`: the record and its range, reading, lists of reading calls, and what a call tells by the bodies of the bits alone.
 pub mod Record
-pub mod Packets
-pub mod Notices
 pub mod Reading
 pub mod Reads
-pub mod Found
+pub mod TellsFirst

@@ -1,7 +1,7 @@
 -- Reading (document 01, "Notices" and "Calls and their refusals"): "A read goes bit by bit and stops after the first notice, or at the end with End. It
 -- returns record, notice and bits read."
 use Prim.Native.Nat.{ℕ, _-_, _*_}
-use mathlib.Core.Bool.{false, cond, not, _||_}
+use mathlib.Core.Bool.{cond, not, _||_}
 use mathlib.Core.List.{List}
 use mathlib.Core.Path.{_≡_}
 use lib.ListN.{length, take}
@@ -14,24 +14,42 @@ use Rattle.framing.specs.declared.Check.the-variants.{Packet, Nothing}
 use Rattle.framing.specs.declared.Check.the-variants.{Spoilt as SpoiltBody}
 use Rattle.framing.specs.declared.Scan.{Scan}
 use Rattle.framing.specs.Scanning.{scan}
+use Rattle.notices.specs.declared.Notice.{Notice}
+use Rattle.notices.specs.declared.Notice.the-variants.{End, Spoilt}
+use Rattle.notices.specs.declared.Hearing.{Hearing}
+use Rattle.notices.specs.Stores.{storeLength, storeAfterNotice}
+use Rattle.notices.specs.Heard.{heard}
 use Rattle.receiver.specs.declared.Receiver.{Receiver}
-use Rattle.receiver.specs.declared.Notice.{Notice}
-use Rattle.receiver.specs.declared.Notice.the-variants.{End, Spoilt}
 use Rattle.receiver.specs.declared.Read.{Read}
 use Rattle.receiver.specs.declared.Read.the-variants.{Told, Refused}
 use Rattle.receiver.specs.declared.Reading.{Reading}
-use Rattle.receiver.specs.Record.{storeLength, inRange}
-use Rattle.receiver.specs.Notices.{Heard, heard}
+use Rattle.receiver.specs.Record.{inRange}
 
 -- the record with another framing
 unfoldable pub withFraming : Receiver → Framing → Receiver
 withFraming r f = record { circuits = r .circuits; slots = r .slots; framing = f }
 
+-- receiver and store after a body, and the notice
+pub record Noticed : Type 0 where
+  pub receiver : Receiver
+  pub store : List ℕ
+  pub notice : Notice
+
+-- what a packet that passed leaves and tells
+unfoldable pub passed : Receiver → List ℕ → List ℕ → Noticed
+passed r store p =
+    let h : Hearing = heard (r .circuits) (r .slots) p in
+    record {
+      receiver = record { circuits = r .circuits; slots = h .slots; framing = r .framing };
+      store = storeAfterNotice (h .notice) (r .slots) p store;
+      notice = h .notice;
+    }
+
 -- "Each body that passes gives one notice; one that does not, and unstuffs to 32 bits or more, gives Spoilt. Others, void ones too, give none"
-unfoldable pub noticed : Check → List ℕ → Receiver → List ℕ → Heard
-noticed (Packet n) bytes r store = heard r store (take n bytes)
-noticed SpoiltBody bytes r store = record { receiver = r; store = store; notice = Spoilt; first = false }
-noticed Nothing bytes r store = record { receiver = r; store = store; notice = End; first = false }
+unfoldable pub noticed : Check → List ℕ → Receiver → List ℕ → Noticed
+noticed (Packet n) bytes r store = passed r store (take n bytes)
+noticed SpoiltBody bytes r store = record { receiver = r; store = store; notice = Spoilt }
+noticed Nothing bytes r store = record { receiver = r; store = store; notice = End }
 
 -- the notice where no packet passed
 unfoldable pub quietNotice : Check → Notice
@@ -40,7 +58,7 @@ quietNotice SpoiltBody = Spoilt
 quietNotice Nothing = End
 
 -- what a scan of bits leaves and tells
-unfoldable pub readBy : Scan → Receiver → List ℕ → Heard
+unfoldable pub readBy : Scan → Receiver → List ℕ → Noticed
 readBy s r store = noticed (s .check) (s .bytes) (withFraming r (s .framing)) store
 
 -- the scan of a reading call

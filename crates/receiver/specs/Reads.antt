@@ -4,16 +4,16 @@ use Prim.Native.Nat.{ℕ}
 use mathlib.Core.Bool.{Bool, true, false, cond}
 use mathlib.Core.List.{List, [], _∷_, _++_, map}
 use lib.ListN.{take, drop}
-use lib.Dec.{eqb}
 use Rattle.bits.specs.Bits.{bitsOf}
 use Rattle.hdlc.specs.Bodies.{Body, Judged, passes, spoilt, nothing, judge}
 use Rattle.packet.specs.Circuits.{listing}
+use Rattle.notices.specs.declared.Notice.{Notice}
+use Rattle.notices.specs.declared.Notice.the-variants.{End, Spoilt, Malformed, System, Elsewhere, Circuit}
 use Rattle.receiver.specs.declared.Receiver.{Receiver}
-use Rattle.receiver.specs.declared.Notice.{Notice}
-use Rattle.receiver.specs.declared.Notice.the-variants.{End, Spoilt, Malformed, System, Elsewhere, Circuit}
+use Rattle.receiver.specs.declared.Read.{Read}
+use Rattle.receiver.specs.declared.Read.the-variants.{Told, Refused}
 use Rattle.receiver.specs.Record.{fresh}
-use Rattle.receiver.specs.Notices.{Heard, heard}
-use Rattle.receiver.specs.Reading.{readBy, readScan, readRefusal, receiverAfterRead, storeAfterRead, bitsRead}
+use Rattle.receiver.specs.Reading.{Noticed, passed, receiverAfterRead, storeAfterRead, bitsRead, answerToRead}
 
 -- a reading call: the bytes lent, the bit from which it reads, and the one at which it ends
 pub record ReadCall : Type 0 where
@@ -29,10 +29,6 @@ pub record ReceiverEnd : Type 0 where
 -- "A fresh .. receiver is the record that an accepted listing returned"; "a store holds any bytes at first"
 abbrev pub freshReceiverEnd : List ℕ → List ℕ → ReceiverEnd
 freshReceiverEnd list store = record { receiver = fresh (listing list); store = store }
-
--- the call is accepted
-unfoldable pub acceptedRead : ReceiverEnd → ReadCall → Bool
-acceptedRead e c = eqb (readRefusal (e .receiver) (e .store) (c .bytes) (c .from) (c .to)) 0
 
 -- the state after a call
 unfoldable pub afterRead : ReceiverEnd → ReadCall → ReceiverEnd
@@ -56,17 +52,22 @@ bitsOfReads e [] = []
 bitsOfReads e (c ∷ cs) = bitsOfRead e c ++ bitsOfReads (afterRead e c) cs
 
 -- a notice, and the store "when its reading call returned"
-pub record Told : Type 0 where
+pub record Report : Type 0 where
   pub notice : Notice
   pub store : List ℕ
 
--- what a call tells; a refused one tells nothing
-unfoldable pub told : ReceiverEnd → ReadCall → List Told
-told e c =
-    let h : Heard = readBy (readScan (e .receiver) (c .bytes) (c .from) (c .to)) (e .receiver) (e .store) in
-    cond (acceptedRead e c) (record { notice = h .notice; store = h .store } ∷ []) []
+-- what an answer tells, with the store then; a refusal tells nothing
+unfoldable pub reportOf : Read → List ℕ → List Report
+reportOf (Told notice) store = record { notice = notice; store = store } ∷ []
+reportOf (Refused n) store = []
 
-unfoldable pub toldByReads : ReceiverEnd → List ReadCall → List Told
+-- what a call tells
+unfoldable pub told : ReceiverEnd → ReadCall → List Report
+told e c =
+    reportOf (answerToRead (e .receiver) (e .store) (c .bytes) (c .from) (c .to))
+    (storeAfterRead (e .receiver) (e .store) (c .bytes) (c .from) (c .to))
+
+unfoldable pub toldByReads : ReceiverEnd → List ReadCall → List Report
 toldByReads e [] = []
 toldByReads e (c ∷ cs) = told e c ++ toldByReads (afterRead e c) cs
 
@@ -74,18 +75,18 @@ toldByReads e (c ∷ cs) = told e c ++ toldByReads (afterRead e c) cs
 
 -- "Each body that passes gives one notice; one that does not, and unstuffs to 32 bits or more, gives Spoilt. Others, void ones too, give none":
 -- of what the bodies give, one after another
-unfoldable pub toldByJudged : Receiver → List ℕ → List Judged → List Told
+unfoldable pub toldByJudged : Receiver → List ℕ → List Judged → List Report
 toldByJudged r store [] = []
 toldByJudged r store (passes packet ∷ js) =
-    let h : Heard = heard r store packet in
+    let h : Noticed = passed r store packet in
     record { notice = h .notice; store = h .store } ∷ toldByJudged (h .receiver) (h .store) js
 toldByJudged r store (spoilt ∷ js) = record { notice = Spoilt; store = store } ∷ toldByJudged r store js
 toldByJudged r store (nothing ∷ js) = toldByJudged r store js
 
-unfoldable pub toldByBodies : Receiver → List ℕ → List Body → List Told
+unfoldable pub toldByBodies : Receiver → List ℕ → List Body → List Report
 toldByBodies r store bs = toldByJudged r store (map (λ (b : Body). judge (b .bits)) bs)
 
--- what is told but End
+-- the notice is End
 unfoldable pub isEnd : Notice → Bool
 isEnd End = true
 isEnd Spoilt = false
@@ -94,6 +95,7 @@ isEnd (System enable code length) = false
 isEnd Elsewhere = false
 isEnd (Circuit c loss fate) = false
 
-unfoldable pub notEnd : List Told → List Told
+-- what is told but End
+unfoldable pub notEnd : List Report → List Report
 notEnd [] = []
 notEnd (t ∷ ts) = cond (isEnd (t .notice)) (notEnd ts) (t ∷ notEnd ts)

@@ -1,15 +1,20 @@
 // Reading: lent bits are read up to the first notice.
-ghost use Prim.Native.Nat.{_*_};
+ghost use Prim.Native.Nat.{_*_, _≤_};
+ghost use mathlib.Core.Bool.{true};
 ghost use mathlib.Core.Path.{_≡_};
 ghost use lib.ListN.{length};
 ghost use lib.Dec.{ltb};
-ghost use Rattle.receiver.specs.Reading.{withFraming, quietNotice, readRefusal, ReadCalled};
-use super::Notice;
+ghost use Rattle.notices.specs.Stores.{storeLength};
+ghost use Rattle.receiver.specs.declared.Read.the-variants.{Told};
+ghost use Rattle.receiver.specs.Record.{inRange};
+ghost use Rattle.receiver.specs.Reading.{withFraming, passed, quietNotice, readRefusal, ReadCalled};
 use super::Read;
 use super::Reading;
 use super::Receiver;
 use framing::Check;
 use framing::Framing;
+use notices::Notice;
+use notices::stores;
 
 // The bits up to number `to` lie past the bytes.
 fn past(bytes: &[u8], to: usize) -> bool
@@ -68,6 +73,31 @@ impl Receiver {
         }
     }
 
+    // A packet that passed is heard, and what its notice writes is written; so many bits were read.
+    fn read_packet(self, store: &mut [u8], p: &[u8], bits: usize) -> Reading
+        requires { ⌜ (inRange self ≡ true) × (storeLength ≤ length (now store)) × (2 ≤ length (now p)) × (length (now p) ≤ 19) ⌝ }
+        ensures { λ r. ⌜ (r .receiver ≡ passed self (now (store .entry)) (now (p .entry)) .receiver)
+            × (r .read ≡ Told (passed self (now (store .entry)) (now (p .entry)) .notice)) × (r .bits ≡ bits)
+            × (now (store .exit) ≡ passed self (now (store .entry)) (now (p .entry)) .store) ⌝ }
+    {
+        let circuits = self.circuits;
+        let before = self.slots;
+        let framing = self.framing;
+        let heard = notices::hear(circuits, before, p);
+        let notice = heard.notice;
+        let slots = heard.slots;
+        stores::write(store, notice, before, p);
+        Reading {
+            read: Read::Told(notice),
+            receiver: Receiver {
+                circuits,
+                slots,
+                framing,
+            },
+            bits,
+        }
+    }
+
     // An accepted call reads up to the first notice.
     fn read_on(self, store: &mut [u8], bytes: &[u8], from: usize, to: usize) -> Reading
         requires { ⌜ readRefusal self (now store) (now bytes) from to ≡ 0 ⌝ }
@@ -87,14 +117,7 @@ impl Receiver {
             };
         };
         let packet = scan.bytes;
-        let heard = receiver.hear(store, &packet[..n]);
-        let notice = heard.notice;
-        let after = heard.receiver;
-        Reading {
-            read: Read::Told(notice),
-            receiver: after,
-            bits,
-        }
+        receiver.read_packet(store, &packet[..n], bits)
     }
 
     // Reads the bits from number `from` up to `to` of the bytes lent, until the first notice.

@@ -9,8 +9,9 @@ use lib.Dec.{ltb}
 use borrow.Author.Tests.{ltb-false, lt-ltb, le-ltb, not-false}
 use Rattle.bits.proofs.Tests.{or-left, or-right}
 use Rattle.offering.specs.declared.Sender.{Sender}
-use Rattle.offering.specs.Record.{region, storeLength, inRange}
-use Rattle.sender.specs.Blocks.{System, blockRefusal}
+use Rattle.packet.specs.Stores.{region}
+use Rattle.offering.specs.Record.{storeLength, inRange}
+use Rattle.sender.specs.Blocks.{System, wrongSize, shortBuffer, wrongSystem, blockRefusal}
 use Rattle.sender.specs.BlockCalls.{Allowed}
 
 -- ---- each refusal, behind the tests that come before it
@@ -31,28 +32,28 @@ module _ (s : Sender) (store buffer : List ℕ) (n u : ℕ) (y : System) where
 
     module _ (long : 16384 ≤ length store) where
       pub gives-11-short : n < 256 → Gives 11
-      unfolding blockRefusal storeLength region
+      unfolding blockRefusal wrongSize storeLength region
       gives-11-short h = rw (range, le-ltb (length store) 16384, lt-ltb n 256)
 
       module _ (least : 256 ≤ n) where
         pub gives-11-long : 27000 < n → Gives 11
-        unfolding blockRefusal storeLength region
+        unfolding blockRefusal wrongSize storeLength region
         gives-11-long h = rw (range, le-ltb (length store) 16384, le-ltb n 256, lt-ltb 27000 n)
 
         module _ (most : n ≤ 27000) where
           pub gives-11-few : u < 256 → Gives 11
-          unfolding blockRefusal storeLength region
+          unfolding blockRefusal wrongSize storeLength region
           gives-11-few h = rw (range, le-ltb (length store) 16384, le-ltb n 256, le-ltb 27000 n, lt-ltb u 256)
 
           module _ (some : 256 ≤ u) where
             pub gives-11-many : n < u → Gives 11
-            unfolding blockRefusal storeLength region
+            unfolding blockRefusal wrongSize storeLength region
             gives-11-many h = rw (range, le-ltb (length store) 16384, le-ltb n 256, le-ltb 27000 n, le-ltb u 256, lt-ltb n u)
 
             module _ (within : u ≤ n) where
               -- a buffer under N bits has fewer than N / 8 bytes, rounded up
               pub gives-12 : length buffer < (n + 7) / 8 → Gives 12
-              unfolding blockRefusal storeLength region
+              unfolding blockRefusal wrongSize shortBuffer storeLength region
               gives-12 h =
                   let short : 8 * length buffer < n = omega arith in
                   rw (
@@ -66,9 +67,8 @@ module _ (s : Sender) (store buffer : List ℕ) (n u : ℕ) (y : System) where
                   )
 
               -- what is left is the system packet
-              pub gives-rest : (n + 7) / 8 ≤ length buffer → (k : ℕ)
-                  → k ≡ cond (y .wanted && (ltb 15 (y .enable) || ltb 8 (y .code) || ltb 15 (length (y .information)))) 13 0 → Gives k
-              unfolding blockRefusal storeLength region
+              pub gives-rest : (n + 7) / 8 ≤ length buffer → (k : ℕ) → k ≡ cond (wrongSystem y) 13 0 → Gives k
+              unfolding blockRefusal wrongSize shortBuffer storeLength region
               gives-rest h k e =
                   let enough : n ≤ 8 * length buffer = omega arith in
                   rw (
@@ -110,7 +110,7 @@ pub record Accepted (s : Sender) (store buffer : List ℕ) (n u : ℕ) (y : Syst
   pub allowed : y .wanted ≡ true → Allowed (y .enable) (y .code) (y .information)
 
 pub accepted : (s : Sender) (store buffer : List ℕ) (n u : ℕ) (y : System) → blockRefusal s store buffer n u y ≡ 0 → Accepted s store buffer n u y
-unfolding blockRefusal
+unfolding blockRefusal wrongSize shortBuffer wrongSystem
 accepted s store buffer n u y e =
     let a = ltb n 256 in
     let b = ltb 27000 n in
@@ -119,8 +119,7 @@ accepted s store buffer n u y e =
     let code = ltb 8 (y .code) in
     let long = ltb 15 (length (y .information)) in
     let (range, store-short, sizes, short, system) =
-    none-holds (not (inRange s)) (ltb (length store) storeLength) (a || b || c || ltb n u) (ltb (8 * length buffer) n)
-    (y .wanted && (enable || code || long)) e in
+    none-holds (not (inRange s)) (ltb (length store) storeLength) (wrongSize n u) (shortBuffer buffer n) (wrongSystem y) e in
     let sizes′ = or-left (a || b || c) (ltb n u) sizes in
     record {
       record-in-range = not-false (inRange s) range;

@@ -4,9 +4,9 @@ use mathlib.Core.Path.{_≡_, _∙_}
 use Prim.Native.Nat.{ℕ, _*_, _≤_}
 use native.Mathlib.Nat.{zero-add}
 use native.Mathlib.Omega.{arith}
-use mathlib.Core.Bool.{true, false}
+use mathlib.Core.Bool.{Bool, true, false}
 use mathlib.Core.List.{List}
-use lib.ListN.{length, length-append}
+use lib.ListN.{length}
 use lib.Dec.{eqb}
 use borrow.Author.Tests.{ne-eqb}
 use Rattle.bits.specs.Bits.{Bytes}
@@ -16,12 +16,46 @@ use Rattle.offering.specs.declared.Sender.{Sender}
 use Rattle.offering.specs.Record.{storeLength, inRange}
 use Rattle.sender.specs.declared.Fill.{Fill}
 use Rattle.sender.specs.declared.Made.the-variants.{Block, Refused}
-use Rattle.sender.specs.Blocks.{System, opening, enableBits, filled, blockFilled, usedBits, blockBits, blockRefusal, senderAfterBlock, bufferAfterBlock}
+use Rattle.sender.specs.Blocks.{
+  framesBits,
+  flaggedFrames,
+  blockOf,
+  placedPackets,
+  fillUp,
+  System,
+  systemPackets,
+  enableBits,
+  blockFilled,
+  usedBits,
+  blockBits,
+  blockRefusal,
+  senderAfterBlock,
+  bufferAfterBlock,
+}
 use Rattle.sender.specs.BlockCalls.{Allowed, FramesWritten, Closed, madeOf, answerToBlock, BlockCalled}
-use Rattle.sender.proofs.Filling.{filled-used}
+use Rattle.sender.proofs.UsedBits.{usedBits-behind}
+use Rattle.sender.proofs.UsedAtMostU.{used-at-most-U}
 use Rattle.sender.proofs.OpeningBits.{length-opening}
 use Rattle.sender.proofs.BlockRefusals.{Accepted, accepted}
 use Rattle.sender.proofs.BlockBits.{Closed-blockBuffer}
+
+-- frames written behind those of any packets before them
+module _ (s : Sender) (store : List ℕ) (u : ℕ) (before : List (List ℕ)) (enable : ℕ) {old b₁ b₂ : List ℕ} {at : ℕ} {r : Fill}
+    (opened : Written old 0 (flaggedFrames before) b₁ at) (f : FramesWritten b₁ at (fillUp s store at enable u) b₂ r) where
+  FramesWritten-block : FramesWritten b₁ at (blockFilled s store u before enable) b₂ r
+  unfolding blockFilled
+  FramesWritten-block =
+      let e : at ≡ length (flaggedFrames before) = opened .behind ∙ zero-add (length (flaggedFrames before)) in
+      rw (← e) f
+
+  Written-used : Written old 0 (usedBits s store u before enable) b₂ (r .at)
+  Written-used =
+      let ours = placedPackets (blockFilled s store u before enable .frames) in
+      rw (usedBits-behind s store u before enable)
+      (Written-append (flaggedFrames before) (framesBits ours) opened (FramesWritten-block .written))
+
+  used-end : r .at ≡ length (usedBits s store u before enable)
+  used-end = Written-used .behind ∙ zero-add (length (usedBits s store u before enable))
 
 module _ (s : Sender) (store old : List ℕ) (n u : ℕ) (y : System) where
   -- a refused call
@@ -39,48 +73,40 @@ module _ (s : Sender) (store old : List ℕ) (n u : ℕ) (y : System) where
     pub before-opening : (256 ≤ 8 * length old) × (y .wanted ≡ true → Allowed (y .enable) (y .code) (y .information))
     before-opening = (omega (arith, known), known .allowed)
 
-    opening-le : length (opening y) ≤ u
-    opening-le = omega (arith, length-opening y (known .allowed), known)
-
     -- the opening is written
-    module _ {b₁ : List ℕ} {at : ℕ} (opened : Written old 0 (opening y) b₁ at) (l₁ : length b₁ ≡ length old) where
-      at-opening : at ≡ length (opening y)
-      at-opening = opened .behind ∙ zero-add (length (opening y))
-
+    module _ {b₁ : List ℕ} {at : ℕ} (opened : Written old 0 (flaggedFrames (systemPackets y)) b₁ at) (l₁ : length b₁ ≡ length old) where
       pub before-frames : (inRange s ≡ true) × ((storeLength ≤ length store) × ((at ≤ u) × (u ≤ 8 * length b₁) × (u ≤ 27000)))
-      before-frames = (
-        known .record-in-range,
-        (known .store-long, (omega (arith, at-opening, opening-le), omega (arith, l₁, known), omega (arith, known))),
-      )
+      before-frames =
+          let within : at ≤ u = omega (arith, opened .behind, length-opening y (known .allowed), known) in
+          (known .record-in-range, (known .store-long, (within, omega (arith, l₁, known), omega (arith, known))))
 
       -- and the frames are
-      module _ {b₂ : List ℕ} {enable : ℕ} {r : Fill} (e : enable ≡ enableBits y) (f : FramesWritten b₁ at (filled s store at enable u) b₂ r)
+      module _ {b₂ : List ℕ} {enable : ℕ} {r : Fill} (e : enable ≡ enableBits y) (f : FramesWritten b₁ at (fillUp s store at enable u) b₂ r)
           (l₂ : length b₂ ≡ length b₁) where
-        frames : FramesWritten b₁ at (blockFilled s store u y) b₂ r
-        unfolding blockFilled
-        frames = rw (← at-opening, ← e) f
+        frames : FramesWritten b₁ at (fillUp s store at (enableBits y) u) b₂ r
+        frames = rw (← e) f
 
-        used-written : Written old 0 (usedBits s store u y) b₂ (r .at)
-        unfolding usedBits
-        used-written = Written-append (opening y) (blockFilled s store u y .bits) opened (frames .written)
+        abbrev used : List Bool
+        used = usedBits s store u (systemPackets y) (enableBits y)
 
-        used : r .at ≡ length (usedBits s store u y)
-        used = used-written .behind ∙ zero-add (length (usedBits s store u y))
+        end : r .at ≡ length used
+        end = used-end s store u (systemPackets y) (enableBits y) opened frames
 
-        used-le : length (usedBits s store u y) ≤ u
-        unfolding usedBits blockFilled
-        used-le = rw length-append (filled-used s store (length (opening y)) (enableBits y) u opening-le)
+        used-le : length used ≤ u
+        used-le = used-at-most-U s store old n u y h
 
         pub before-closing : (r .at ≤ n) × (n ≤ 27000) × (n ≤ 8 * length b₂)
-        before-closing = (omega (arith, used, used-le, known), omega (arith, known), omega (arith, l₁, l₂, known))
+        before-closing = (omega (arith, end, used-le, known), omega (arith, known), omega (arith, l₁, l₂, known))
 
         -- and the block is closed
         pub BlockCalled-made : {new : List ℕ} → Closed b₂ (r .at) n new → Bytes old → Bytes new
             → BlockCalled s store old n u y new (record { made = Block (r .placed) (r .at); sender = r .sender })
-        unfolding senderAfterBlock bufferAfterBlock answerToBlock madeOf blockBits
+        unfolding senderAfterBlock bufferAfterBlock answerToBlock madeOf usedBits blockBits blockOf
         BlockCalled-made {new} closed ho hn =
+            let filling = FramesWritten-block s store u (systemPackets y) (enableBits y) opened frames in
+            let written = Written-used s store u (systemPackets y) (enableBits y) opened frames in
             record {
-              sender = rw h (frames .sender);
-              made = rw (h, frames .placed, used);
-              buffer = rw h (Closed-blockBuffer old (usedBits s store u y) n (omega (arith, used-le, known)) (known .buffer-long) used-written closed ho hn);
+              sender = rw h (filling .sender);
+              made = rw (h, filling .placed, end);
+              buffer = rw h (Closed-blockBuffer old used n (omega (arith, used-le, known)) (known .buffer-long) written closed ho hn);
             }

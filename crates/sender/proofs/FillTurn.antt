@@ -3,12 +3,13 @@ use mathlib.Core.Path.{_≡_, refl, sym, ap, _∙_}
 use Prim.Native.Nat.{ℕ, suc, _+_, _*_, _^_, _≤_, _<_}
 use native.Mathlib.Nat.{add-zero, zero-add}
 use native.Mathlib.Omega.{arith}
-use mathlib.Core.Bool.{Bool, true, false}
-use mathlib.Core.List.{List}
+use mathlib.Core.Bool.{true, false}
+use mathlib.Core.List.{List, _++_}
 use mathlib.Core.Option.{none, some}
 use lib.ListN.{length, length-append}
 use lib.Dec.{leb}
 use borrow.Author.Tests.{leb-true, leb-false, le-leb, lt-leb}
+use Rattle.hdlc.specs.Frames.{flag, frame}
 use Rattle.hdlc.specs.Writing.{Room, Written}
 use Rattle.hdlc.proofs.Ending.{length-flag}
 use Rattle.hdlc.proofs.Writing.{Written-append}
@@ -16,29 +17,30 @@ use Rattle.offering.specs.declared.Sender.{Sender}
 use Rattle.offering.specs.Record.{storeLength, slotAt, pending, inRange}
 use Rattle.picking.specs.Picking.{pick, served}
 use Rattle.picking.proofs.PickingLaws.{served-in-range, length-served}
-use Rattle.writing.specs.NextFrame.{nextFrame}
+use Rattle.writing.specs.NextFrame.{nextPacket, nextFrame}
 use Rattle.writing.proofs.FrameLength.{length-nextFrame}
 use Rattle.sender.specs.declared.Fill.{Fill}
-use Rattle.sender.specs.Blocks.{Filled, full, andThen, placing, filled}
+use Rattle.sender.specs.Blocks.{framesBits, PlacedFrame, placedPackets, Filled, full, andThen, placing, fillUp}
 use Rattle.sender.specs.BlockCalls.{FramesWritten}
-use Rattle.sender.proofs.Filling.{filled-step}
+use Rattle.sender.proofs.Filling.{fillUp-step}
 
 module _ (s : Sender) (store : List ℕ) (at enable u : ℕ) (e : inRange s ≡ true) (l : length (s .slots) ≡ 4) where
   -- filling ends where none is picked, and where the frame that is would pass u
-  filled-none : pick s enable ≡ none → filled s store at enable u ≡ full s
+  fillUp-none : pick s enable ≡ none → fillUp s store at enable u ≡ full s
   unfolding placing
-  filled-none p = filled-step s store at enable u e l ∙ rw p
+  fillUp-none p = fillUp-step s store at enable u e l ∙ rw p
 
   module _ (c : ℕ) (p : pick s enable ≡ some c) where
-    filled-past : u < at + length (nextFrame s store c) → filled s store at enable u ≡ full s
+    fillUp-past : u < at + length (nextFrame s store c) → fillUp s store at enable u ≡ full s
     unfolding placing
-    filled-past h = filled-step s store at enable u e l ∙ rw (p, lt-leb (at + length (nextFrame s store c)) u h)
+    fillUp-past h = fillUp-step s store at enable u e l ∙ rw (p, lt-leb (at + length (nextFrame s store c)) u h)
 
     -- and otherwise goes on behind it
-    filled-more : at + length (nextFrame s store c) ≤ u
-        → filled s store at enable u ≡ andThen (nextFrame s store c) (filled (served s c) store (at + length (nextFrame s store c)) enable u)
+    fillUp-more : at + length (nextFrame s store c) ≤ u
+        → fillUp s store at enable u ≡ andThen (record { number = c; packet = nextPacket s store c })
+        (fillUp (served s c) store (at + length (nextFrame s store c)) enable u)
     unfolding placing
-    filled-more h = filled-step s store at enable u e l ∙ rw (p, le-leb (at + length (nextFrame s store c)) u h)
+    fillUp-more h = fillUp-step s store at enable u e l ∙ rw (p, le-leb (at + length (nextFrame s store c)) u h)
 
 -- the frame of a circuit at which a copy waits: where 209 bits are left it fits, and elsewhere its last bit's number is small
 module _ (s : Sender) (store : List ℕ) (c : ℕ) (range : inRange s ≡ true) (listed : c < s .circuits .count) (long : storeLength ≤ length store)
@@ -56,12 +58,16 @@ nextFrame-some s store c = rw length-append (omega (arith, length-flag))
 -- ---- what a turn keeps
 
 -- a frame written before what is filled behind it
-FramesWritten-andThen : {old mid new : List ℕ} {at next : ℕ} (bits : List Bool) (f : Filled) (r : Fill) → Written old at bits mid next
-    → FramesWritten mid next f new r
-    → FramesWritten old at (andThen bits f) new (record { sender = r .sender; at = r .at; placed = suc (r .placed) })
-unfolding andThen
-FramesWritten-andThen bits f r w g =
-    record { sender = g .sender; written = Written-append bits (f .bits) w (g .written); placed = ap suc (g .placed) }
+FramesWritten-andThen : {old mid new : List ℕ} {at next : ℕ} (p : PlacedFrame) (f : Filled) (r : Fill)
+    → Written old at (frame (p .packet) ++ flag) mid next → FramesWritten mid next f new r
+    → FramesWritten old at (andThen p f) new (record { sender = r .sender; at = r .at; placed = suc (r .placed) })
+unfolding andThen placedPackets framesBits
+FramesWritten-andThen p f r w g =
+    record {
+      sender = g .sender;
+      written = Written-append (frame (p .packet) ++ flag) (framesBits (placedPackets (f .frames))) w (g .written);
+      placed = ap suc (g .placed);
+    }
 
 -- to fill what is left from here, with the frames placed so far, is to fill all from the start
 pub record ToFill (old : List ℕ) (s₀ : Sender) (store : List ℕ) (at₀ enable u : ℕ) (buffer : List ℕ) (s : Sender) (at placed : ℕ) : Type 0 where
@@ -70,8 +76,8 @@ pub record ToFill (old : List ℕ) (s₀ : Sender) (store : List ℕ) (at₀ ena
   pub slots : length (s .slots) ≡ 4
   pub within : at ≤ u
   pub few : placed ≤ at
-  pub rest : (new : List ℕ) (r : Fill) → FramesWritten buffer at (filled s store at enable u) new r
-      → FramesWritten old at₀ (filled s₀ store at₀ enable u) new (record { sender = r .sender; at = r .at; placed = placed + r .placed })
+  pub rest : (new : List ℕ) (r : Fill) → FramesWritten buffer at (fillUp s store at enable u) new r
+      → FramesWritten old at₀ (fillUp s₀ store at₀ enable u) new (record { sender = r .sender; at = r .at; placed = placed + r .placed })
 
 pub ToFill-start : (old : List ℕ) (s : Sender) (store : List ℕ) (at enable u : ℕ) → inRange s ≡ true → length (s .slots) ≡ 4 → at ≤ u
     → ToFill old s store at enable u old s at 0
@@ -89,21 +95,21 @@ module _ {old : List ℕ} {s₀ : Sender} {store : List ℕ} {at₀ enable u : �
     (g : ToFill old s₀ store at₀ enable u buffer s at placed) where
   -- all is filled
   abbrev Done : Type 0
-  Done = FramesWritten old at₀ (filled s₀ store at₀ enable u) buffer (record { sender = s; at = at; placed = placed })
+  Done = FramesWritten old at₀ (fillUp s₀ store at₀ enable u) buffer (record { sender = s; at = at; placed = placed })
 
-  ends : filled s store at enable u ≡ full s → Done
-  unfolding full
+  ends : fillUp s store at enable u ≡ full s → Done
+  unfolding full placedPackets framesBits
   ends e =
-      let here : FramesWritten buffer at (filled s store at enable u) buffer (record { sender = s; at = at; placed = 0 }) =
+      let here : FramesWritten buffer at (fillUp s store at enable u) buffer (record { sender = s; at = at; placed = 0 }) =
       rw e (record { sender = refl; written = record { buffer = refl; behind = sym (add-zero at) }; placed = refl }) in
       rw add-zero at (g .rest buffer (record { sender = s; at = at; placed = 0 }) here)
 
   pub ToFill-none : pick s enable ≡ none → Done
-  ToFill-none p = ends (filled-none s store at enable u (g .range) (g .slots) p)
+  ToFill-none p = ends (fillUp-none s store at enable u (g .range) (g .slots) p)
 
   module _ {c : ℕ} (p : pick s enable ≡ some c) where
     pub ToFill-past : leb (at + length (nextFrame s store c)) u ≡ false → Done
-    ToFill-past h = ends (filled-past s store at enable u (g .range) (g .slots) c p (leb-false _ _ h))
+    ToFill-past h = ends (fillUp-past s store at enable u (g .range) (g .slots) c p (leb-false _ _ h))
 
     module _ (h : leb (at + length (nextFrame s store c)) u ≡ true) where
       fits : at + length (nextFrame s store c) ≤ u
@@ -114,6 +120,7 @@ module _ {old : List ℕ} {s₀ : Sender} {store : List ℕ} {at₀ enable u : �
 
       pub ToFill-step : {more : List ℕ} {next : ℕ} → Written buffer at (nextFrame s store c) more next → length more ≡ length buffer
           → ToFill old s₀ store at₀ enable u more (served s c) next (placed + 1)
+      unfolding nextFrame
       ToFill-step {more} {next} w l =
           record {
             long = l ∙ g .long;
@@ -124,13 +131,14 @@ module _ {old : List ℕ} {s₀ : Sender} {store : List ℕ} {at₀ enable u : �
             rest = again;
           }
         where
-          again : (new : List ℕ) (r : Fill) → FramesWritten more next (filled (served s c) store next enable u) new r
-              → FramesWritten old at₀ (filled s₀ store at₀ enable u) new (record { sender = r .sender; at = r .at; placed = placed + 1 + r .placed })
+          again : (new : List ℕ) (r : Fill) → FramesWritten more next (fillUp (served s c) store next enable u) new r
+              → FramesWritten old at₀ (fillUp s₀ store at₀ enable u) new (record { sender = r .sender; at = r .at; placed = placed + 1 + r .placed })
           again new r f =
-              let later = filled (served s c) store next enable u in
-              let e : filled s store at enable u ≡ andThen (nextFrame s store c) later =
-              rw (← w .behind) at (filled-more s store at enable u (g .range) (g .slots) c p fits) in
+              let later = fillUp (served s c) store next enable u in
+              let here : PlacedFrame = record { number = c; packet = nextPacket s store c } in
+              let e : fillUp s store at enable u ≡ andThen here later =
+              rw (← w .behind) at (fillUp-more s store at enable u (g .range) (g .slots) c p fits) in
               let n : placed + suc (r .placed) ≡ placed + 1 + r .placed = omega arith in
               rw n at
               (g .rest new (record { sender = r .sender; at = r .at; placed = suc (r .placed) })
-              (rw e (FramesWritten-andThen (nextFrame s store c) later r w f)))
+              (rw e (FramesWritten-andThen here later r w f)))

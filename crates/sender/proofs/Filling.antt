@@ -1,5 +1,5 @@
 -- Filling a block: serving the picked circuit leaves one copy less to place, so that the number of copies by which the definition recurses is
--- never met before picking ends (`filled-step`); the record stays in range; and what is used is at most U.
+-- never met before picking ends (`fillUp-step`); and what is used is at most U.
 use mathlib.Core.Path.{_≡_, refl}
 use Prim.Native.Nat.{ℕ, zero, suc, _+_, _≤_, _<_}
 use native.Mathlib.Omega.{arith}
@@ -15,9 +15,9 @@ use Rattle.offering.specs.declared.Sender.{Sender}
 use Rattle.offering.specs.Record.{noSlot, slotAt, inRange}
 use Rattle.offering.proofs.Ranges.{inRange-facts, slotInRange-slotAt}
 use Rattle.picking.specs.Picking.{pick, advanced, served, copiesWaiting}
-use Rattle.picking.proofs.PickingLaws.{pick-waits, copies-served, served-in-range}
-use Rattle.writing.specs.NextFrame.{nextFrame}
-use Rattle.sender.specs.Blocks.{Filled, full, andThen, placing, fill, copiesIn, waiting, filled}
+use Rattle.picking.proofs.PickingLaws.{pick-waits, copies-served}
+use Rattle.writing.specs.NextFrame.{nextPacket, nextFrame}
+use Rattle.sender.specs.Blocks.{framesBits, placedPackets, Filled, full, andThen, placing, fill, copiesIn, waiting, fillUp}
 
 -- one copy less waits in all
 copiesIn-set : (ts : List Slot) (i : ℕ) (t : Slot) → i < length ts → copiesWaiting t + 1 ≡ copiesWaiting (getD ts i noSlot)
@@ -43,7 +43,7 @@ waiting-served s enable c e l p =
     (omega (arith, copiesIn-set (take n (s .slots)) c (advanced (slotAt s c)) within fewer))
 
 -- where no copy waits none is picked
-pub pick-none : (s : Sender) (enable : ℕ) → inRange s ≡ true → length (s .slots) ≡ 4 → waiting s ≡ 0 → pick s enable ≡ none
+pick-none : (s : Sender) (enable : ℕ) → inRange s ≡ true → length (s .slots) ≡ 4 → waiting s ≡ 0 → pick s enable ≡ none
 pick-none s enable e l w = go (pick s enable) refl
   where
     go : (o : Option ℕ) → pick s enable ≡ o → o ≡ none
@@ -51,14 +51,14 @@ pick-none s enable e l w = go (pick s enable) refl
     go (some c) p = absurd (omega (arith, waiting-served s enable c e l p))
 
 -- the count in `fill` is not seen
-pub filled-step : (s : Sender) (store : List ℕ) (at enable u : ℕ) → inRange s ≡ true → length (s .slots) ≡ 4
-    → filled s store at enable u
-    ≡ placing (pick s enable) s store at u (λ c. filled (served s c) store (at + length (nextFrame s store c)) enable u)
-unfolding filled fill placing
-filled-step s store at enable u e l = go (waiting s) refl
+pub fillUp-step : (s : Sender) (store : List ℕ) (at enable u : ℕ) → inRange s ≡ true → length (s .slots) ≡ 4
+    → fillUp s store at enable u
+    ≡ placing (pick s enable) s store at u (λ c. fillUp (served s c) store (at + length (nextFrame s store c)) enable u)
+unfolding fillUp fill placing
+fillUp-step s store at enable u e l = go (waiting s) refl
   where
     later : ℕ → Filled
-    later c = filled (served s c) store (at + length (nextFrame s store c)) enable u
+    later c = fillUp (served s c) store (at + length (nextFrame s store c)) enable u
 
     picked : (n : ℕ) (o : Option ℕ) → waiting s ≡ suc n → pick s enable ≡ o
         → placing o s store at u (λ c. fill n (served s c) store (at + length (nextFrame s store c)) enable u) ≡ placing o s store at u later
@@ -73,38 +73,30 @@ filled-step s store at enable u e l = go (waiting s) refl
 
 -- what holds where filling ends, and behind a frame that does not pass U
 pub placing-cases : (P : Filled → Type 0) (o : Option ℕ) (s : Sender) (store : List ℕ) (at u : ℕ) (later : ℕ → Filled) → P (full s)
-    → ((c : ℕ) → o ≡ some c → at + length (nextFrame s store c) ≤ u → P (andThen (nextFrame s store c) (later c)))
+    → ((c : ℕ) → o ≡ some c → at + length (nextFrame s store c) ≤ u
+    → P (andThen (record { number = c; packet = nextPacket s store c }) (later c)))
     → P (placing o s store at u later)
 unfolding placing
 placing-cases P none s store at u later ends goes = ends
 placing-cases P (some c) s store at u later ends goes = go (leb (at + length (nextFrame s store c)) u) refl
   where
-    go : (t : Bool) → leb (at + length (nextFrame s store c)) u ≡ t → P (cond t (andThen (nextFrame s store c) (later c)) (full s))
+    more : Filled
+    more = andThen (record { number = c; packet = nextPacket s store c }) (later c)
+
+    go : (t : Bool) → leb (at + length (nextFrame s store c)) u ≡ t → P (cond t more (full s))
     go true e = goes c refl (leb-true (at + length (nextFrame s store c)) u e)
     go false e = ends
 
--- the record stays in range
-fill-in-range : (n : ℕ) (s : Sender) (store : List ℕ) (at enable u : ℕ) → inRange s ≡ true → inRange (fill n s store at enable u .sender) ≡ true
-unfolding fill full andThen
-fill-in-range zero s store at enable u e = e
-fill-in-range (suc n) s store at enable u e =
-    placing-cases (λ (f : Filled). inRange (f .sender) ≡ true) (pick s enable) s store at u
-    (λ c. fill n (served s c) store (at + length (nextFrame s store c)) enable u) e
-    (λ c p h. fill-in-range n (served s c) store (at + length (nextFrame s store c)) enable u (served-in-range s enable c e p))
-
-pub filled-in-range : (s : Sender) (store : List ℕ) (at enable u : ℕ) → inRange s ≡ true → inRange (filled s store at enable u .sender) ≡ true
-unfolding filled
-filled-in-range s store at enable u e = fill-in-range (waiting s) s store at enable u e
-
 -- what is used is at most U
-fill-used : (n : ℕ) (s : Sender) (store : List ℕ) (at enable u : ℕ) → at ≤ u → at + length (fill n s store at enable u .bits) ≤ u
-unfolding fill full andThen
+fill-used : (n : ℕ) (s : Sender) (store : List ℕ) (at enable u : ℕ) → at ≤ u → at + length (framesBits (placedPackets (fill n s store at enable u .frames))) ≤ u
+unfolding fill full andThen placedPackets framesBits nextFrame
 fill-used zero s store at enable u h = omega arith
 fill-used (suc n) s store at enable u h =
-    placing-cases (λ (f : Filled). at + length (f .bits) ≤ u) (pick s enable) s store at u
+    placing-cases (λ (f : Filled). at + length (framesBits (placedPackets (f .frames))) ≤ u) (pick s enable) s store at u
     (λ c. fill n (served s c) store (at + length (nextFrame s store c)) enable u) (omega arith)
     (λ c p l. rw length-append (omega (arith, fill-used n (served s c) store (at + length (nextFrame s store c)) enable u l)))
 
-pub filled-used : (s : Sender) (store : List ℕ) (at enable u : ℕ) → at ≤ u → at + length (filled s store at enable u .bits) ≤ u
-unfolding filled
-filled-used s store at enable u h = fill-used (waiting s) s store at enable u h
+pub fillUp-used : (s : Sender) (store : List ℕ) (at enable u : ℕ) → at ≤ u
+    → at + length (framesBits (placedPackets (fillUp s store at enable u .frames))) ≤ u
+unfolding fillUp
+fillUp-used s store at enable u h = fill-used (waiting s) s store at enable u h

@@ -14,7 +14,7 @@ use Rattle.hdlc.proofs.Ending.{length-flag}
 use Rattle.hdlc.proofs.InTurn.{bitsOf-cons}
 use Rattle.hdlc.proofs.FrameLength.{length-frame}
 use Rattle.packet.specs.Packets.{systemPacket}
-use Rattle.sender.specs.Blocks.{System, opening}
+use Rattle.sender.specs.Blocks.{framesBits, flaggedFrames, System, systemPackets}
 use Rattle.sender.specs.BlockCalls.{Allowed}
 
 -- a system packet's bits are those of its bytes in turn
@@ -42,22 +42,26 @@ length-system enable code information h =
     (omega (arith, length-frame (systemPacket enable code information), length-systemPacket enable code information, length-flag))
 
 module _ (y : System) where
+  -- what stands before our frames
+  abbrev opening : List Bool
+  opening = flaggedFrames (systemPackets y)
+
   -- the system packet's frame and a flag
   abbrev wantedBits : List Bool
   wantedBits = frame (systemPacket (y .enable) (y .code) (y .information)) ++ flag
 
-  opening-wanted : y .wanted ≡ true → opening y ≡ flag ++ wantedBits
-  unfolding opening
-  opening-wanted e = rw e
+  opening-wanted : y .wanted ≡ true → opening ≡ flag ++ wantedBits
+  unfolding flaggedFrames systemPackets framesBits
+  opening-wanted e = rw (e, append-nil)
 
-  opening-flag : y .wanted ≡ false → opening y ≡ flag
-  unfolding opening
+  opening-flag : y .wanted ≡ false → opening ≡ flag
+  unfolding flaggedFrames systemPackets framesBits
   opening-flag e = rw (e, append-nil)
 
-  pub length-opening : (y .wanted ≡ true → Allowed (y .enable) (y .code) (y .information)) → length (opening y) ≤ 208
+  pub length-opening : (y .wanted ≡ true → Allowed (y .enable) (y .code) (y .information)) → length opening ≤ 208
   length-opening allowed = go (y .wanted) refl
     where
-      go : (t : Bool) → y .wanted ≡ t → length (opening y) ≤ 208
+      go : (t : Bool) → y .wanted ≡ t → length opening ≤ 208
       go true e =
           rw (opening-wanted e, length-append)
           (omega (arith, length-flag, length-system (y .enable) (y .code) (y .information) (allowed e .information)))
@@ -72,9 +76,9 @@ module _ (y : System) where
       omega arith
 
   -- what is written is the opening
-  pub Written-flag-alone : {old new : List ℕ} {at : ℕ} → y .wanted ≡ false → Written old 0 flag new at → Written old 0 (opening y) new at
+  pub Written-flag-alone : {old new : List ℕ} {at : ℕ} → y .wanted ≡ false → Written old 0 flag new at → Written old 0 opening new at
   Written-flag-alone e w = rw (opening-flag e) w
 
   pub Written-opening : {old mid new : List ℕ} {at end : ℕ} → y .wanted ≡ true → Written old 0 flag mid at → Written mid at wantedBits new end
-      → Written old 0 (opening y) new end
+      → Written old 0 opening new end
   Written-opening e v w = rw (opening-wanted e) (Written-append flag wantedBits v w)

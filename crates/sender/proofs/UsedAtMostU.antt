@@ -9,10 +9,10 @@ use lib.Seq.{take-at}
 use Rattle.bits.specs.Bits.{bitsOf, bytesOf}
 use Rattle.bits.proofs.Bits.{bitsOf-append, bitsOf-fillBytes}
 use Rattle.offering.specs.declared.Sender.{Sender}
-use Rattle.sender.specs.Blocks.{System, enableBits, opening, blockFilled, usedBits, blockBits, blockBuffer, blockRefusal, bufferAfterBlock}
+use Rattle.sender.specs.Blocks.{blockOf, System, systemPackets, enableBits, usedBits, blockBits, blockBuffer, blockRefusal, bufferAfterBlock}
 use Rattle.sender.proofs.BlockRefusals.{Accepted, accepted}
 use Rattle.sender.proofs.OpeningBits.{length-opening}
-use Rattle.sender.proofs.Filling.{filled-used}
+use Rattle.sender.proofs.UsedBits.{used-within}
 
 -- the bits that a block's buffer begins with
 take-blockBuffer : (old : List ℕ) (bits : List Bool) (n : ℕ) → length bits ≡ n → take n (bitsOf (blockBuffer old bits)) ≡ bits
@@ -23,18 +23,16 @@ take-blockBuffer old bits n e =
 
 -- "A block has N user bits, of which U may be used"
 module _ (s : Sender) (store buffer : List ℕ) (n u : ℕ) (y : System) (e : blockRefusal s store buffer n u y ≡ 0) where
-  pub used-at-most-U : length (usedBits s store u y) ≤ u
-  unfolding usedBits blockFilled
+  pub used-at-most-U : length (usedBits s store u (systemPackets y) (enableBits y)) ≤ u
   used-at-most-U =
       let a : Accepted s store buffer n u y = accepted s store buffer n u y e in
-      let short : length (opening y) ≤ u = omega (arith, length-opening y (a .allowed), a .least) in
-      rw length-append (filled-used s store (length (opening y)) (enableBits y) u short)
+      used-within s store u (systemPackets y) (enableBits y) (omega (arith, length-opening y (a .allowed), a .least))
 
-  pub length-blockBits : length (blockBits s store n u y) ≡ n
-  unfolding blockBits
+  length-blockBits : length (blockBits s store n u (systemPackets y) (enableBits y)) ≡ n
+  unfolding usedBits blockBits blockOf
   length-blockBits = rw (length-append, length-replicate) (omega (arith, used-at-most-U, accepted s store buffer n u y e .used))
 
   -- the N bits that the buffer holds then
-  pub take-bufferAfterBlock : take n (bitsOf (bufferAfterBlock s store buffer n u y)) ≡ blockBits s store n u y
+  pub take-bufferAfterBlock : take n (bitsOf (bufferAfterBlock s store buffer n u y)) ≡ blockBits s store n u (systemPackets y) (enableBits y)
   unfolding bufferAfterBlock
-  take-bufferAfterBlock = rw e (take-blockBuffer buffer (blockBits s store n u y) n length-blockBits)
+  take-bufferAfterBlock = rw e (take-blockBuffer buffer (blockBits s store n u (systemPackets y) (enableBits y)) n length-blockBits)

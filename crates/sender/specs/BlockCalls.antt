@@ -13,7 +13,19 @@ use Rattle.sender.specs.declared.Fill.{Fill}
 use Rattle.sender.specs.declared.Made.{Made}
 use Rattle.sender.specs.declared.Made.the-variants.{Block, Refused}
 use Rattle.sender.specs.declared.Making.{Making}
-use Rattle.sender.specs.Blocks.{Filled, System, blockFilled, usedBits, blockRefusal, senderAfterBlock, bufferAfterBlock}
+use Rattle.sender.specs.Blocks.{
+  framesBits,
+  placedPackets,
+  Filled,
+  System,
+  systemPackets,
+  enableBits,
+  blockFilled,
+  usedBits,
+  blockRefusal,
+  senderAfterBlock,
+  bufferAfterBlock,
+}
 
 -- what a block call asks for
 abbrev pub system : Bool → ℕ → ℕ → List ℕ → System
@@ -28,8 +40,8 @@ pub record Allowed (e c : ℕ) (bytes : List ℕ) : Type 0 where
 -- the frames are written from bit `at` on, and `r` tells of them
 pub record FramesWritten (old : List ℕ) (at : ℕ) (f : Filled) (new : List ℕ) (r : Fill) : Type 0 where
   pub sender : r .sender ≡ f .sender
-  pub written : Written old at (f .bits) new (r .at)
-  pub placed : r .placed ≡ f .placed
+  pub written : Written old at (framesBits (placedPackets (f .frames))) new (r .at)
+  pub placed : r .placed ≡ length (f .frames)
 
 -- the block of n bits is closed: ones from bit `used` to n, and the spare bits of the last byte 0
 pub record Closed (old : List ℕ) (used n : ℕ) (new : List ℕ) : Type 0 where
@@ -44,9 +56,15 @@ unfoldable pub madeNumber : Made → ℕ
 madeNumber (Block placed used) = 0
 madeNumber (Refused n) = n
 
+-- "frames placed (system excluded)", and "bits used, which are those before the closing ones"
+abbrev pub framesPlaced : Sender → List ℕ → ℕ → System → ℕ
+framesPlaced s store u y = length (blockFilled s store u (systemPackets y) (enableBits y) .frames)
+
+abbrev pub bitsUsed : Sender → List ℕ → ℕ → System → ℕ
+bitsUsed s store u y = length (usedBits s store u (systemPackets y) (enableBits y))
+
 unfoldable pub answerToBlock : Sender → List ℕ → List ℕ → ℕ → ℕ → System → Made
-answerToBlock s store buffer n u y =
-    madeOf (blockRefusal s store buffer n u y) (blockFilled s store u y .placed) (length (usedBits s store u y))
+answerToBlock s store buffer n u y = madeOf (blockRefusal s store buffer n u y) (framesPlaced s store u y) (bitsUsed s store u y)
 
 -- what a block call returns and leaves
 pub record BlockCalled (s : Sender) (store old : List ℕ) (n u : ℕ) (y : System) (new : List ℕ) (r : Making) : Type 0 where

@@ -1,7 +1,7 @@
 -- Block making (document 01, "Blocks" and "Calls and their refusals").
 use Prim.Native.Nat.{ℕ, zero, suc, _+_, _-_, _*_, _/_}
 use mathlib.Core.Bool.{Bool, true, cond, not, _&&_, _||_}
-use mathlib.Core.List.{List, [], _∷_, _++_}
+use mathlib.Core.List.{List, [], _∷_, _++_, map}
 use mathlib.Core.Option.{Option, none, some}
 use lib.ListN.{length, drop, take, replicate}
 use lib.Dec.{leb, ltb, eqb}
@@ -12,26 +12,51 @@ use Rattle.offering.specs.declared.Slot.{Slot}
 use Rattle.offering.specs.declared.Sender.{Sender}
 use Rattle.offering.specs.Record.{storeLength, inRange}
 use Rattle.picking.specs.Picking.{pick, served, copiesWaiting}
-use Rattle.writing.specs.NextFrame.{nextFrame}
+use Rattle.writing.specs.NextFrame.{nextPacket, nextFrame}
 
--- what filling leaves: the record, the bits written and the frames placed
+-- ---- the bits of frames
+
+-- frames of packets, "each with a flag after it"
+unfoldable pub framesBits : List (List ℕ) → List Bool
+framesBits [] = []
+framesBits (p ∷ ps) = (frame p ++ flag) ++ framesBits ps
+
+-- "a flag; ..; then frames, each with a flag after it, neighbours sharing flags"
+unfoldable pub flaggedFrames : List (List ℕ) → List Bool
+flaggedFrames ps = flag ++ framesBits ps
+
+-- the N bits of a block that has these packets: ".. then ones up to N"
+unfoldable pub blockOf : ℕ → List (List ℕ) → List Bool
+blockOf n ps = flaggedFrames ps ++ replicate (n - length (flaggedFrames ps)) true
+
+-- ---- filling
+
+-- a frame placed: its circuit's number, and its packet
+pub record PlacedFrame : Type 0 where
+  pub number : ℕ
+  pub packet : List ℕ
+
+-- the packets of frames placed, in order
+unfoldable pub placedPackets : List PlacedFrame → List (List ℕ)
+placedPackets fs = map (λ (f : PlacedFrame). f .packet) fs
+
+-- what filling leaves: the record, and the frames placed, in order
 pub record Filled : Type 0 where
   pub sender : Sender
-  pub bits : List Bool
-  pub placed : ℕ
+  pub frames : List PlacedFrame
 
 unfoldable pub full : Sender → Filled
-full s = record { sender = s; bits = []; placed = 0 }
+full s = record { sender = s; frames = [] }
 
--- a frame and its flag before what comes behind them
-unfoldable pub andThen : List Bool → Filled → Filled
-andThen bits f = record { sender = f .sender; bits = bits ++ f .bits; placed = suc (f .placed) }
+-- a frame before those behind it
+unfoldable pub andThen : PlacedFrame → Filled → Filled
+andThen p f = record { sender = f .sender; frames = p ∷ f .frames }
 
--- what a picked circuit gives: its frame and flag, and what comes later, unless they "would pass U"
+-- what a picked circuit gives: its next frame, and what comes later, unless "the picked frame and its flag would pass U"
 unfoldable pub placing : Option ℕ → Sender → List ℕ → ℕ → ℕ → (ℕ → Filled) → Filled
 placing none s store at u later = full s
 placing (some c) s store at u later =
-    let more = andThen (nextFrame s store c) (later c) in
+    let more = andThen (record { number = c; packet = nextPacket s store c }) (later c) in
     cond (leb (at + length (nextFrame s store c)) u) more (full s)
 
 -- at most n frames, each with a flag after it, from bit `at` on
@@ -49,9 +74,11 @@ copiesIn (t ∷ ts) = copiesWaiting t + copiesIn ts
 unfoldable pub waiting : Sender → ℕ
 waiting s = copiesIn (take (s .circuits .count) (s .slots))
 
--- "Picking ends when none waits or the picked frame and its flag would pass U": no more frames than copies wait (`filled-step`)
-unfoldable pub filled : Sender → List ℕ → ℕ → ℕ → ℕ → Filled
-filled s store at enable u = fill (waiting s) s store at enable u
+-- "Picking ends when none waits or the picked frame and its flag would pass U": no more frames than copies wait (`fillUp-step`)
+unfoldable pub fillUp : Sender → List ℕ → ℕ → ℕ → ℕ → Filled
+fillUp s store at enable u = fill (waiting s) s store at enable u
+
+-- ---- blocks
 
 -- what is asked for in a block: a system packet, or none
 pub record System : Type 0 where
@@ -60,44 +87,62 @@ pub record System : Type 0 where
   pub code : ℕ
   pub information : List ℕ
 
+-- "the system packet's frame .., if one is wanted": the packets before ours
+unfoldable pub systemPackets : System → List (List ℕ)
+systemPackets y = cond (y .wanted) (systemPacket (y .enable) (y .code) (y .information) ∷ []) []
+
 -- "Its enable bits rule its own block; a block without one enables all"
 unfoldable pub enableBits : System → ℕ
 enableBits y = cond (y .wanted) (y .enable) 15
 
--- "a flag; the system packet's frame and a flag, if one is wanted"
-unfoldable pub opening : System → List Bool
-opening y = flag ++ cond (y .wanted) (frame (systemPacket (y .enable) (y .code) (y .information)) ++ flag) []
+-- our frames in a block, behind those of the packets before them, under the enable bits in force
+unfoldable pub blockFilled : Sender → List ℕ → ℕ → List (List ℕ) → ℕ → Filled
+blockFilled s store u before enable = fillUp s store (length (flaggedFrames before)) enable u
 
--- what the frames behind the opening are
-unfoldable pub blockFilled : Sender → List ℕ → ℕ → System → Filled
-blockFilled s store u y = filled s store (length (opening y)) (enableBits y) u
+-- all packets in a block, in order
+unfoldable pub blockPackets : Sender → List ℕ → ℕ → List (List ℕ) → ℕ → List (List ℕ)
+blockPackets s store u before enable = before ++ placedPackets (blockFilled s store u before enable .frames)
 
 -- the bits used, "which are those before the closing ones"
-unfoldable pub usedBits : Sender → List ℕ → ℕ → System → List Bool
-usedBits s store u y = opening y ++ blockFilled s store u y .bits
+unfoldable pub usedBits : Sender → List ℕ → ℕ → List (List ℕ) → ℕ → List Bool
+usedBits s store u before enable = flaggedFrames (blockPackets s store u before enable)
 
--- the N bits of a block: "then ones up to N"
-unfoldable pub blockBits : Sender → List ℕ → ℕ → ℕ → System → List Bool
-blockBits s store n u y = usedBits s store u y ++ replicate (n - length (usedBits s store u y)) true
+-- its N bits
+unfoldable pub blockBits : Sender → List ℕ → ℕ → ℕ → List (List ℕ) → ℕ → List Bool
+blockBits s store n u before enable = blockOf n (blockPackets s store u before enable)
 
 -- "Bits fill bytes lowest first; spare bits of the last byte are 0; bytes behind it keep their values"
 unfoldable pub blockBuffer : List ℕ → List Bool → List ℕ
 blockBuffer old bits = bytesOf bits ++ drop ((length bits + 7) / 8) old
+
+-- ---- block calls
+
+-- "11 N outside 256 to 27,000 or U outside 256 to N"
+unfoldable pub wrongSize : ℕ → ℕ → Bool
+wrongSize n u = ltb n 256 || ltb 27000 n || ltb u 256 || ltb n u
+
+-- "12 buffer under N bits"
+unfoldable pub shortBuffer : List ℕ → ℕ → Bool
+shortBuffer buffer n = ltb (8 * length buffer) n
+
+-- "13, only if a system packet is wanted, enable bits above 15, code above 8 or information above 15 bytes"
+unfoldable pub wrongSystem : System → Bool
+wrongSystem y = y .wanted && (ltb 15 (y .enable) || ltb 8 (y .code) || ltb 15 (length (y .information)))
 
 -- the refusal of a block call, the first that holds in the order of document 01; 0 if it is accepted
 unfoldable pub blockRefusal : Sender → List ℕ → List ℕ → ℕ → ℕ → System → ℕ
 blockRefusal s store buffer n u y =
     cond (not (inRange s)) 14
     (cond (ltb (length store) storeLength) 5
-    (cond (ltb n 256 || ltb 27000 n || ltb u 256 || ltb n u) 11
-    (cond (ltb (8 * length buffer) n) 12
-    (cond (y .wanted && (ltb 15 (y .enable) || ltb 8 (y .code) || ltb 15 (length (y .information)))) 13 0))))
+    (cond (wrongSize n u) 11
+    (cond (shortBuffer buffer n) 12
+    (cond (wrongSystem y) 13 0))))
 
 -- "All refusals return .. the record given, and leave every lent byte unchanged"
 unfoldable pub senderAfterBlock : Sender → List ℕ → List ℕ → ℕ → ℕ → System → Sender
 senderAfterBlock s store buffer n u y =
-    cond (eqb (blockRefusal s store buffer n u y) 0) (blockFilled s store u y .sender) s
+    cond (eqb (blockRefusal s store buffer n u y) 0) (blockFilled s store u (systemPackets y) (enableBits y) .sender) s
 
 unfoldable pub bufferAfterBlock : Sender → List ℕ → List ℕ → ℕ → ℕ → System → List ℕ
 bufferAfterBlock s store buffer n u y =
-    cond (eqb (blockRefusal s store buffer n u y) 0) (blockBuffer buffer (blockBits s store n u y)) buffer
+    cond (eqb (blockRefusal s store buffer n u y) 0) (blockBuffer buffer (blockBits s store n u (systemPackets y) (enableBits y))) buffer

@@ -1,5 +1,3 @@
--- The definitions of `sender`: what its calls are told by, of which `offering` has the record and offers; filling and block making.
-pub mod Record
-pub mod Offering
+-- The definitions of `sender`: filling and block making.
 pub mod Blocks
 pub mod BlockCalls

@@ -1,16 +1,16 @@
 // Blocks: the opening, the frames behind it, the closing ones and the spare zeros.
 ghost use mathlib.Core.Path.{_≡_};
-ghost use Prim.Native.Nat.{_+_, _*_, _≤_, _<_};
-ghost use mathlib.Core.Bool.{true, cond, _&&_, _||_};
-ghost use mathlib.Core.List.{_++_};
+ghost use Prim.Native.Nat.{ℕ, _+_, _*_, _≤_, _<_};
+ghost use mathlib.Core.Bool.{true, cond};
+ghost use mathlib.Core.List.{List, _++_};
 ghost use lib.ListN.{length};
-ghost use lib.Dec.{leb, ltb};
+ghost use lib.Dec.{leb};
 ghost use Rattle.hdlc.specs.Frames.{flag, frame};
 ghost use Rattle.hdlc.specs.Writing.{Room, Written};
 ghost use Rattle.packet.specs.Packets.{systemPacket};
 ghost use Rattle.offering.specs.Record.{storeLength, slotAt, pending, inRange};
 ghost use Rattle.writing.specs.NextFrame.{nextFrame};
-ghost use Rattle.sender.specs.Blocks.{filled, opening, blockRefusal};
+ghost use Rattle.sender.specs.Blocks.{flaggedFrames, fillUp, systemPackets, enableBits, wrongSystem, blockRefusal};
 ghost use Rattle.sender.specs.BlockCalls.{system, Allowed, FramesWritten, Closed, BlockCalled};
 use crate::Fill;
 use crate::Made;
@@ -41,7 +41,7 @@ fn put_system(buf: &mut [u8], at: usize, enable: u8, code: u8, information: &[u8
 fn put_opening(buf: &mut [u8], wanted: bool, enable: u8, code: u8, information: &[u8]) -> usize
     requires { ⌜ 256 ≤ 8 * length (now buf) ⌝ }
     requires { ⌜ (wanted ≡ true → Allowed enable code (now information)) ⌝ }
-    ensures { λ r. ⌜ Written (now (buf .entry)) 0 (opening (system wanted enable code (now (information .entry)))) (now (buf .exit)) r ⌝ }
+    ensures { λ r. ⌜ Written (now (buf .entry)) 0 (flaggedFrames (systemPackets (system wanted enable code (now (information .entry))))) (now (buf .exit)) r ⌝ }
 {
     let at = hdlc::put_flag(buf, 0);
     if !wanted {
@@ -70,7 +70,7 @@ fn fill(buf: &mut [u8], sender: Sender, store: &[u8], at: usize, enable: u8, u: 
     requires { ⌜ inRange sender ≡ true ⌝ }
     requires { ⌜ storeLength ≤ length (now store) ⌝ }
     requires { ⌜ (at ≤ u) × (u ≤ 8 * length (now buf)) × (u ≤ 27000) ⌝ }
-    ensures { λ r. ⌜ FramesWritten (now (buf .entry)) at (filled sender (now (store .entry)) at enable u) (now (buf .exit)) r ⌝ }
+    ensures { λ r. ⌜ FramesWritten (now (buf .entry)) at (fillUp sender (now (store .entry)) at enable u) (now (buf .exit)) r ⌝ }
 {
     let mut s = sender;
     let mut end = at;
@@ -96,7 +96,7 @@ fn fill(buf: &mut [u8], sender: Sender, store: &[u8], at: usize, enable: u8, u: 
 
 // The enable bits of a block.
 fn enable_bits(wanted: bool, enable: u8) -> u8
-    ensures { λ r. ⌜ r ≡ cond wanted enable 15 ⌝ }
+    ensures { λ r. ⌜ ((c : ℕ) (bytes : List ℕ) → r ≡ enableBits (system wanted enable c bytes)) ⌝ }
 {
     if !wanted {
         return 15;
@@ -114,8 +114,8 @@ fn close(buf: &mut [u8], used: usize, n: usize)
 }
 
 // The refusal of what is asked for as a system packet, 0 if there is none.
-fn system_refusal(wanted: bool, enable: u8, code: u8, length: usize) -> u8
-    ensures { λ r. ⌜ r ≡ cond (wanted && (ltb 15 enable || ltb 8 code || ltb 15 length)) 13 0 ⌝ }
+fn system_refusal(wanted: bool, enable: u8, code: u8, information: &[u8]) -> u8
+    ensures { λ r. ⌜ r ≡ cond (wrongSystem (system wanted enable code (now (information .entry)))) 13 0 ⌝ }
 {
     if !wanted {
         return 0;
@@ -126,7 +126,7 @@ fn system_refusal(wanted: bool, enable: u8, code: u8, length: usize) -> u8
     if 8 < code {
         return 13;
     }
-    if 15 < length {
+    if 15 < information.len() {
         return 13;
     }
     0
@@ -167,7 +167,7 @@ fn refusal(
     if buf.len() < (n + 7) / 8 {
         return 12;
     }
-    system_refusal(wanted, enable, code, information.len())
+    system_refusal(wanted, enable, code, information)
 }
 
 // A block that no refusal stops.

@@ -1,11 +1,8 @@
-// The sender: its calls, of which listing and offering stand in the crate below, and block making.
+// Block making. The sender's record, listing and offering stand in the crate `offering`.
 
 pub mod blocks;
 
-pub use offering::Listed;
-pub use offering::Offered;
-pub use offering::Sender;
-pub use offering::Slot;
+use offering::Sender;
 
 // What filling a block leaves: the record, the bit behind the frames, and how many there are.
 pub struct Fill {

@@ -6,13 +6,13 @@
 // Then frames with a tear in them are read, and whole blocks are made for chosen calls: what they give follows from document 01.
 use framing::Check;
 use framing::Framing;
+use offering::Sender;
 use packet::Answer;
 use printing::print;
 use printing::print_bytes;
 use printing::print_hex;
 use printing::print_number;
 use sender::Made;
-use sender::Sender;
 use sender::blocks::make_block;
 ghost use mathlib.Core.Path.{_≡_};
 ghost use Prim.Native.Nat.{_*_, _≤_};

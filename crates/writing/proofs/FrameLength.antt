@@ -12,13 +12,14 @@ use Rattle.hdlc.specs.Frames.{flag, frame}
 use Rattle.hdlc.proofs.FrameLength.{length-frame-flag}
 use Rattle.packet.specs.declared.Circuit.{Circuit}
 use Rattle.packet.specs.Circuits.{noCircuit}
-use Rattle.packet.specs.Messages.{packets, segment, linkOf}
+use Rattle.packet.specs.Messages.{longest, packets, segment, linkOf}
+use Rattle.packet.specs.Stores.{region}
 use Rattle.packet.proofs.CircuitLists.{circuitsRefusal-extended}
 use Rattle.packet.proofs.Segments.{length-segment}
 use Rattle.packet.proofs.PacketBytes.{length-packetOf}
 use Rattle.offering.specs.declared.Slot.{Slot}
 use Rattle.offering.specs.declared.Sender.{Sender}
-use Rattle.offering.specs.Record.{region, storeLength, slotAt, pending, inRange, messageAt}
+use Rattle.offering.specs.Record.{storeLength, slotAt, pending, inRange, messageAt}
 use Rattle.offering.proofs.Ranges.{slotInRange-facts, inRange-facts, slotInRange-slotAt}
 use Rattle.writing.specs.NextFrame.{nextPacket, nextFrame}
 use Rattle.writing.specs.PacketParts.{packetAt}
@@ -38,20 +39,20 @@ length-frameAt c t m h e = length-frame-flag (packetAt c t m) (length-packetAt c
 -- the next frame is that of the slot's next packet
 pub nextFrame-packetAt : (s : Sender) (store : List ℕ) (c : ℕ)
     → nextFrame s store c ≡ frame (packetAt (getD (s .circuits .list) c noCircuit) (slotAt s c) (messageAt s store c)) ++ flag
-unfolding nextFrame nextPacket packetAt
+unfolding nextFrame nextPacket
 nextFrame-packetAt s store c = refl
 
 -- a listed circuit of a record in range: its number, its slot and its message, its next frame, its extension
 module _ (s : Sender) (store : List ℕ) (c : ℕ) (e : inRange s ≡ true) (h : c < s .circuits .count) (l : storeLength ≤ length store) where
-  pub number-lt : c < 4
-  number-lt = omega (arith, inRange-facts s e .count)
+  pub circuit-lt : c < 4
+  circuit-lt = omega (arith, inRange-facts s e .count)
 
-  pub slotAt-short : slotAt s c .length ≤ 4094
+  pub slotAt-short : slotAt s c .length ≤ longest
   slotAt-short = slotInRange-facts (slotAt s c) (slotInRange-slotAt s c e h) .short
 
   pub length-messageAt : length (messageAt s store c) ≡ slotAt s c .length
-  unfolding messageAt storeLength region
-  length-messageAt = simp (length-take, length-drop) (omega (arith, number-lt, slotAt-short))
+  unfolding messageAt storeLength region longest
+  length-messageAt = simp (length-take, length-drop) (omega (arith, circuit-lt, slotAt-short))
 
   module _ (w : pending (slotAt s c) ≡ true) where
     pub length-nextFrame : length (nextFrame s store c) ≤ 209

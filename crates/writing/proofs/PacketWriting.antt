@@ -1,12 +1,11 @@
 -- A slot's next packet is what stands before the message's bytes in it, and a part of the message: its bits are those of its bytes in the
 -- order in which these are known.
-use Prim.Native.Nat.{ℕ, _+_, _-_, _≤_, _<_}
+use Prim.Native.Nat.{ℕ, _+_, _-_, _≤_}
 use native.Mathlib.Omega.{arith}
-use mathlib.Core.Bool.{Bool, true, false, cond}
+use mathlib.Core.Bool.{Bool, true}
 use mathlib.Core.List.{List, [], _∷_, _++_, append-nil, append-assoc}
 use mathlib.Core.Path.{_≡_, ap, _∙_}
 use borrow.Author.Tests.{eq-eqb, ne-eqb, ltb-true}
-use lib.Dec.{eqb}
 use lib.ListN.{length, take, drop, getD}
 use Rattle.bits.specs.Bits.{byteBits, bitsOf}
 use Rattle.bits.proofs.Bits.{bitsOf-append}
@@ -14,7 +13,7 @@ use Rattle.hdlc.proofs.Writing.{bitsOf-step, bitsOf-none}
 use Rattle.hdlc.proofs.InTurn.{bitsOf-cons, bitsOf-pieces}
 use Rattle.packet.specs.declared.Circuit.{Circuit}
 use Rattle.packet.specs.declared.Part.{Part}
-use Rattle.packet.specs.Messages.{header, packets, partOf, linkOf}
+use Rattle.packet.specs.Messages.{header, packets, partOf}
 use Rattle.packet.specs.Packets.{extensionOf, packetOf}
 use Rattle.packet.proofs.Segments.{length-header, segment-part, partOf-le}
 use Rattle.offering.specs.declared.Slot.{Slot}
@@ -85,13 +84,3 @@ packetAt-lead c t m e = rw (segment-part m (t .place), e, append-assoc)
 module _ (c : Circuit) (t : Slot) (m : List ℕ) (e : length m ≡ t .length) where
   pub bitsOf-packetAt : bitsOf (packetAt c t m) ≡ bitsOf (leadOf c t) ++ bitsOf (partAt t m)
   bitsOf-packetAt = bitsOf-pieces (leadOf c t) (partAt t m) (packetAt-lead c t m e)
-
--- the link is less than 4
-pub linkOf-lt : (k n : ℕ) → linkOf k n < 4
-unfolding linkOf
-linkOf-lt k n = go (eqb k 0) (eqb (k + 1) n)
-  where
-    go : (s t : Bool) → cond s 2 (cond t 1 0) < 4
-    go true t = omega arith
-    go false true = omega arith
-    go false false = omega arith

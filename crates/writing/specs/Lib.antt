@@ -1,3 +1,3 @@
--- The definitions of `writing`: the next frame of a circuit, and the parts of its packet.
-pub mod NextFrame
+-- The definitions of `writing`: the packet of a slot with its parts, and the next frame of a circuit.
 pub mod PacketParts
+pub mod NextFrame

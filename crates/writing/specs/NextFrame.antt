@@ -5,17 +5,13 @@ use mathlib.Core.List.{List, _++_}
 use lib.ListN.{getD}
 use Rattle.hdlc.specs.Frames.{flag, frame}
 use Rattle.packet.specs.Circuits.{noCircuit}
-use Rattle.packet.specs.Messages.{packets, segment, linkOf}
-use Rattle.packet.specs.Packets.{packetOf}
 use Rattle.offering.specs.declared.Sender.{Sender}
 use Rattle.offering.specs.Record.{slotAt, messageAt}
+use Rattle.writing.specs.PacketParts.{packetAt}
 
 -- the first copy waiting at a circuit
 unfoldable pub nextPacket : Sender → List ℕ → ℕ → List ℕ
-nextPacket s store c =
-    let t = slotAt s c in
-    packetOf (getD (s .circuits .list) c noCircuit) (linkOf (t .place) (packets (t .length))) (t .index) (t .priority)
-    (segment (messageAt s store c) (t .place))
+nextPacket s store c = packetAt (getD (s .circuits .list) c noCircuit) (slotAt s c) (messageAt s store c)
 
 -- the frame of the first copy waiting at a circuit, with a flag after it
 unfoldable pub nextFrame : Sender → List ℕ → ℕ → List Bool

@@ -9,7 +9,7 @@ use Rattle.packet.specs.Messages.{header, packets, partOf, segment, linkOf}
 use Rattle.packet.specs.Packets.{control, extensionOf, packetOf}
 use Rattle.offering.specs.declared.Slot.{Slot}
 
--- the packet, as `nextPacket` has it
+-- the packet
 unfoldable pub packetAt : Circuit → Slot → List ℕ → List ℕ
 packetAt c t message =
     packetOf c (linkOf (t .place) (packets (t .length))) (t .index) (t .priority) (segment message (t .place))

@@ -3,12 +3,12 @@
 ghost use mathlib.Core.Path.{_≡_};
 ghost use mathlib.Core.Bool.{true};
 ghost use mathlib.Core.List.{_++_};
-ghost use Prim.Native.Nat.{_+_, _*_, _^_, _≤_, _<_};
-ghost use lib.ListN.{length, take, drop};
+ghost use Prim.Native.Nat.{_+_, _^_, _≤_, _<_};
+ghost use lib.ListN.{length};
 ghost use Rattle.bits.specs.Bits.{bitsOf};
 ghost use Rattle.hdlc.specs.Frames.{flag, frame};
 ghost use Rattle.hdlc.specs.Writing.{Room, Written, Stuffed, stuffedBy, penAfter};
-ghost use Rattle.offering.specs.Record.{region, storeLength, slotAt, pending, slotInRange, inRange};
+ghost use Rattle.offering.specs.Record.{storeLength, slotAt, pending, slotInRange, inRange, messageAt};
 ghost use Rattle.writing.specs.NextFrame.{nextFrame};
 ghost use Rattle.writing.specs.PacketParts.{packetAt, controlAt, addressAt, headerAt, leadOf, partAt};
 use hdlc::Pen;
@@ -133,7 +133,7 @@ fn part_of(slot: Slot, message: &[u8]) -> &[u8]
 }
 
 // The frame of a slot's next packet written at bit `at`, and the flag behind it.
-pub fn put_packet(buf: &mut [u8], at: usize, circuit: Circuit, slot: Slot, message: &[u8]) -> usize
+fn put_packet(buf: &mut [u8], at: usize, circuit: Circuit, slot: Slot, message: &[u8]) -> usize
     requires { ⌜ slotInRange slot ≡ true ⌝ }
     requires { ⌜ pending slot ≡ true ⌝ }
     requires { ⌜ circuit .extended < 2 ⌝ }
@@ -147,7 +147,7 @@ pub fn put_packet(buf: &mut [u8], at: usize, circuit: Circuit, slot: Slot, messa
 }
 
 // The number of bits of the frame of a slot's next packet, and of the flag behind it.
-pub fn packet_length(circuit: Circuit, slot: Slot, message: &[u8]) -> usize
+fn packet_length(circuit: Circuit, slot: Slot, message: &[u8]) -> usize
     requires { ⌜ slotInRange slot ≡ true ⌝ }
     requires { ⌜ pending slot ≡ true ⌝ }
     requires { ⌜ circuit .extended < 2 ⌝ }
@@ -159,14 +159,16 @@ pub fn packet_length(circuit: Circuit, slot: Slot, message: &[u8]) -> usize
     counting::pass_end(end)
 }
 
-// The message of a circuit's slot, at the start of its region.
-fn message_at(slot: Slot, store: &[u8], circuit: usize) -> &[u8]
-    requires { ⌜ slot .length ≤ 4094 ⌝ }
-    requires { ⌜ circuit < 4 ⌝ }
+// The message of a circuit, at the start of its region.
+fn message_at(sender: Sender, store: &[u8], circuit: usize) -> &[u8]
+    requires { ⌜ inRange sender ≡ true ⌝ }
+    requires { ⌜ circuit < sender .circuits .count ⌝ }
     requires { ⌜ storeLength ≤ length (now store) ⌝ }
-    ensures { λ r. ⌜ now r ≡ take (slot .length) (drop (region * circuit) (now (store .entry))) ⌝ }
+    ensures { λ r. ⌜ now r ≡ messageAt sender (now (store .entry)) circuit ⌝ }
 {
-    let from = 4096 * circuit;
+    let slots = sender.slots;
+    let slot = slots[circuit];
+    let from = Sender::REGION * circuit;
     let to = from + slot.length as usize;
     &store[from..to]
 }
@@ -185,7 +187,7 @@ pub fn put_next(buf: &mut [u8], at: usize, sender: Sender, store: &[u8], circuit
     let slots = sender.slots;
     let listed = list[circuit];
     let slot = slots[circuit];
-    put_packet(buf, at, listed, slot, message_at(slot, store, circuit))
+    put_packet(buf, at, listed, slot, message_at(sender, store, circuit))
 }
 
 // The number of bits of the frame of the first copy waiting at a circuit, and of the flag behind it.
@@ -201,5 +203,5 @@ pub fn next_length(sender: Sender, store: &[u8], circuit: usize) -> usize
     let slots = sender.slots;
     let listed = list[circuit];
     let slot = slots[circuit];
-    packet_length(listed, slot, message_at(slot, store, circuit))
+    packet_length(listed, slot, message_at(sender, store, circuit))
 }

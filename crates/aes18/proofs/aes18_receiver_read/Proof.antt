@@ -54,7 +54,7 @@ same-length-4 c = search needs
 returns-4 : tie.Need-returns-4
 returns-4 c =
     let called = rw (c .before .before .before .before .before .before .before .before .before .before .before .before .before .before .before .before .receiver-in .ensures) at (c .before .before .before .before .before .before .before .before .before .before .before .before .before .before .read .ensures) in
-    read-told _ _ _ _ _ _ (c .before .before .before .before .before .before .before .before .before .before .before .before .before .before .before .before .before .before .before .before .before .before .if1 .left) (c .before .before .before .before .before .before .before .before .before .before .before .before .before .before .before .before .before .before .before .before .before .if2 .left) (sym (c .before .before .before .before .before .before .before .before .before .before .before .before .before .before .before .before .before .before .before .is-receiver .ensures) ∙ not-false _ (c .before .before .before .before .before .before .before .before .before .before .before .before .before .before .before .before .before .before .if3 .left)) called _ (c .before .before .before .before .before .before .before .before .before .read2 .given .1) (c .before .before .before .before .before .before .put-receiver .ensures) (c .before .before .put-read-answer .ensures)
+    read-told _ _ _ (c .before .before .before .before .before .before .before .before .before .before .before .before .before .before .before .before .before .before .before .before .before .before .before .before .before .before .before .args .from) _ _ (c .before .before .before .before .before .before .before .before .before .before .before .before .before .before .before .before .before .before .before .before .before .before .if1 .left) (c .before .before .before .before .before .before .before .before .before .before .before .before .before .before .before .before .before .before .before .before .before .if2 .left) (sym (c .before .before .before .before .before .before .before .before .before .before .before .before .before .before .before .before .before .before .before .is-receiver .ensures) ∙ not-false _ (c .before .before .before .before .before .before .before .before .before .before .before .before .before .before .before .before .before .before .if3 .left)) called _ (c .before .before .before .before .before .before .before .before .before .read2 .given .1) (c .before .before .before .before .before .before .put-receiver .ensures) (c .before .before .put-read-answer .ensures)
 
 same-length-5 : tie.Need-same-length-5
 same-length-5 c = search needs
@@ -65,7 +65,7 @@ same-length-6 c = search needs
 returns-5 : tie.Need-returns-5
 returns-5 c =
     let called = rw (c .before .before .before .before .before .before .before .before .receiver-in .ensures) at (c .before .before .before .before .before .before .read .ensures) in
-    read-refused _ _ _ _ _ _ (c .before .before .before .before .before .before .before .before .before .before .before .before .before .before .if1 .left) (c .before .before .before .before .before .before .before .before .before .before .before .before .before .if2 .left) (sym (c .before .before .before .before .before .before .before .before .before .before .before .is-receiver .ensures) ∙ not-false _ (c .before .before .before .before .before .before .before .before .before .before .if3 .left)) called _ (c .before .read3 .given .1)
+    read-refused _ _ _ (c .before .before .before .before .before .before .before .before .before .before .before .before .before .before .before .before .before .before .before .args .from) _ _ (c .before .before .before .before .before .before .before .before .before .before .before .before .before .before .if1 .left) (c .before .before .before .before .before .before .before .before .before .before .before .before .before .if2 .left) (sym (c .before .before .before .before .before .before .before .before .before .before .before .is-receiver .ensures) ∙ not-false _ (c .before .before .before .before .before .before .before .before .before .before .if3 .left)) called _ (c .before .read3 .given .1)
 
 pub aes18-receiver-read-spec : {M : Type 1} → statement M
 aes18-receiver-read-spec =

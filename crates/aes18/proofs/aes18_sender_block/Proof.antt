@@ -1,5 +1,7 @@
 -- `aes18::aes18_sender_block` meets its contract: numbers above a byte are refused as the clipped ones are.
+use mathlib.Core.Bool.{not}
 use borrow.Author.Needs.{needs}
+use lib.Dec.{eqb}
 use Rattle.aes18.proofs.SenderOutcomes.{block-short, block-short-answer, block-clipped, block-refused, block-accepted}
 use Rattle.aes18.proofs.aes18_sender_block.Statement.{statement}
 use Rattle.aes18.proofs.aes18_sender_block.Tie as tie
@@ -48,7 +50,7 @@ same-length-3 c = search needs
 
 returns-3 : tie.Need-returns-3
 returns-3 c =
-    let called = block-clipped _ _ _ _ _ _ _ _ _ (c .before .before .before .before .before .before .before .before .before .before .before .before .before .before .before .before .before .before .sender-in .ensures) (c .before .before .before .before .before .before .before .before .before .before .before .before .before .before .before .before .before .clipped .ensures) (c .before .before .before .before .before .before .before .before .before .before .before .before .before .before .before .before .clipped2 .ensures) (c .before .before .before .before .before .before .before .before .before .before .before .before .before .before .make-block .ensures) in
+    let called = block-clipped _ _ _ _ _ (not (eqb (c .before .before .before .before .before .before .before .before .before .before .before .before .before .before .before .before .before .before .before .before .before .before .before .before .before .before .before .args .system) 0)) _ _ _ (c .before .before .before .before .before .before .before .before .before .before .before .before .before .before .before .before .before .before .sender-in .ensures) (c .before .before .before .before .before .before .before .before .before .before .before .before .before .before .before .before .before .clipped .ensures) (c .before .before .before .before .before .before .before .before .before .before .before .before .before .before .before .before .clipped2 .ensures) (c .before .before .before .before .before .before .before .before .before .before .before .before .before .before .make-block .ensures) in
     block-accepted _ _ _ _ _ _ _ (c .before .before .before .before .before .before .before .before .before .before .before .before .before .before .before .before .before .before .before .before .before .if1 .left) (c .before .before .before .before .before .before .before .before .before .before .before .before .before .before .before .before .before .before .before .before .if2 .left) called _ _ (c .before .before .before .before .before .before .before .before .before .made .given .1) (c .before .before .before .before .before .before .put-sender .ensures) (c .before .before .put-block-answer .ensures)
 
 same-length-4 : tie.Need-same-length-4
@@ -59,7 +61,7 @@ same-length-5 c = search needs
 
 returns-4 : tie.Need-returns-4
 returns-4 c =
-    let called = block-clipped _ _ _ _ _ _ _ _ _ (c .before .before .before .before .before .before .before .before .before .before .sender-in .ensures) (c .before .before .before .before .before .before .before .before .before .clipped .ensures) (c .before .before .before .before .before .before .before .before .clipped2 .ensures) (c .before .before .before .before .before .before .make-block .ensures) in
+    let called = block-clipped _ _ _ _ _ (not (eqb (c .before .before .before .before .before .before .before .before .before .before .before .before .before .before .before .before .before .before .before .args .system) 0)) _ _ _ (c .before .before .before .before .before .before .before .before .before .before .sender-in .ensures) (c .before .before .before .before .before .before .before .before .before .clipped .ensures) (c .before .before .before .before .before .before .before .before .clipped2 .ensures) (c .before .before .before .before .before .before .make-block .ensures) in
     block-refused _ _ _ _ _ _ _ (c .before .before .before .before .before .before .before .before .before .before .before .before .before .if1 .left) (c .before .before .before .before .before .before .before .before .before .before .before .before .if2 .left) called _ (c .before .made2 .given .1)
 
 pub aes18-sender-block-spec : {M : Type 1} → statement M

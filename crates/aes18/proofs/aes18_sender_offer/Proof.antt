@@ -30,7 +30,7 @@ same-length-2 c = search needs
 
 returns-2 : tie.Need-returns-2
 returns-2 c =
-    let (answer, after, store) = offer-clipped _ _ _ _ _ _ (c .before .before .before .before .before .before .before .before .sender-in .ensures) (c .before .before .before .before .before .before .before .clipped .ensures) (c .before .before .before .before .before .before .clipped2 .ensures) (c .before .before .before .before .offer .ensures) in
+    let (answer, after, store) = offer-clipped _ _ _ _ (c .before .before .before .before .before .before .before .before .before .before .before .before .before .before .args .repetition) _ (c .before .before .before .before .before .before .before .before .sender-in .ensures) (c .before .before .before .before .before .before .before .clipped .ensures) (c .before .before .before .before .before .before .clipped2 .ensures) (c .before .before .before .before .offer .ensures) in
     offer-refused _ _ _ _ _ _ (c .before .before .before .before .before .before .before .before .before .before .if1 .left) (number-of (c .before .answer-number .ensures) answer) store (c .if2 .taken)
 
 put-sender-requires : tie.Need-put-sender-requires
@@ -44,7 +44,7 @@ same-length-4 c = search needs
 
 returns-3 : tie.Need-returns-3
 returns-3 c =
-    let (answer, after, store) = offer-clipped _ _ _ _ _ _ (c .before .before .before .before .before .before .before .before .before .before .before .before .before .sender-in .ensures) (c .before .before .before .before .before .before .before .before .before .before .before .before .clipped .ensures) (c .before .before .before .before .before .before .before .before .before .before .before .clipped2 .ensures) (c .before .before .before .before .before .before .before .before .before .offer .ensures) in
+    let (answer, after, store) = offer-clipped _ _ _ _ (c .before .before .before .before .before .before .before .before .before .before .before .before .before .before .before .before .before .before .before .args .repetition) _ (c .before .before .before .before .before .before .before .before .before .before .before .before .before .sender-in .ensures) (c .before .before .before .before .before .before .before .before .before .before .before .before .clipped .ensures) (c .before .before .before .before .before .before .before .before .before .before .before .clipped2 .ensures) (c .before .before .before .before .before .before .before .before .before .offer .ensures) in
     offer-accepted _ _ _ _ _ _ (c .before .before .before .before .before .before .before .before .before .before .before .before .before .before .before .if1 .left) (number-of (c .before .before .before .before .before .before .answer-number .ensures) answer) store (c .before .before .before .before .before .if2 .left) after (c .before .before .put-sender .ensures)
 
 pub aes18-sender-offer-spec : {M : Type 1} → statement M

@@ -1,6 +1,7 @@
 -- `layout::word_at` meets its contract.
 use borrow.Author.Needs.{needs}
-use Rattle.layout.specs.Layout.{byteAt, wordAt}
+use Rattle.layout.specs.Layout.{byteAt}
+use Rattle.layout.proofs.Parts.{word}
 use Rattle.layout.proofs.word_at.Statement.{statement}
 use Rattle.layout.proofs.word_at.Tie as tie
 
@@ -26,8 +27,8 @@ add-result : tie.Need-add-result
 add-result c = search needs
 
 returns : tie.Need-returns
-unfolding byteAt wordAt
-returns c = cc
+unfolding byteAt
+returns c = rw (word, c .before .before .wide .ensures .0, c .wide2 .ensures .0)
 
 pub word-at-spec : {M : Type 1} → statement M
 word-at-spec =

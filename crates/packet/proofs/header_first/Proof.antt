@@ -1,5 +1,6 @@
 -- `packet::header_first` meets its contract. Assumes nothing.
 use borrow.Author.Needs.{needs}
+use Rattle.packet.specs.Messages.{longest}
 use Rattle.packet.proofs.Segments.{header-short, header-long}
 use Rattle.packet.proofs.header_first.Statement.{statement}
 use Rattle.packet.proofs.header_first.Tie as tie
@@ -14,6 +15,7 @@ add-result : tie.Need-add-result
 add-result c = search needs
 
 cast-result-2 : tie.Need-cast-result-2
+unfolding longest
 cast-result-2 c = search needs
 
 returns-2 : tie.Need-returns-2

@@ -2,9 +2,9 @@
 use Prim.Native.Nat.{_<_}
 use native.Mathlib.Omega.{arith}
 use borrow.Author.Needs.{needs}
+use Rattle.packet.proofs.Segments.{linkOf-lt}
 use Rattle.offering.proofs.Ranges.{slotInRange-facts}
 use Rattle.writing.specs.PacketParts.{controlAt}
-use Rattle.writing.proofs.PacketWriting.{linkOf-lt}
 use Rattle.writing.proofs.control_byte.Statement.{statement}
 use Rattle.writing.proofs.control_byte.Tie as tie
 
@@ -24,7 +24,7 @@ control-requires : tie.Need-control-requires
 control-requires c κs =
     let s = c .before .before .before .before in
     let f = slotInRange-facts (s .args .slot) (s .pre .0) in
-    let l : c .link .result < 4 = rw (c .link .ensures) (linkOf-lt _ _) in
+    let l : c .link .result < 3 = rw (c .link .ensures) (linkOf-lt _ _) in
     omega arith
 
 returns : tie.Need-returns

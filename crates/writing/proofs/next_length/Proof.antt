@@ -1,19 +1,19 @@
 -- `writing::next_length` meets its contract: the circuit, its slot and its message are lent to `packet_length`.
 use Prim.Native.Nat.{_<_}
-use mathlib.Core.Path.{_≡_, ap, _∙_}
+use mathlib.Core.Path.{ap, _∙_}
 use lib.ListN.{length}
 use borrow.Author.Needs.{needs}
 use denote.Ref.{now}
 use Rattle.packet.specs.Circuits.{noCircuit}
-use Rattle.offering.specs.Record.{noSlot, slotAt, messageAt}
+use Rattle.offering.specs.Record.{noSlot, slotAt}
 use Rattle.offering.proofs.Ranges.{slotInRange-slotAt}
-use Rattle.writing.proofs.FrameLength.{number-lt, slotAt-short, length-messageAt, extended-lt, nextFrame-packetAt}
+use Rattle.writing.proofs.FrameLength.{circuit-lt, length-messageAt, extended-lt, nextFrame-packetAt}
 use Rattle.writing.proofs.next_length.Statement.{statement}
 use Rattle.writing.proofs.next_length.Tie as tie
 
 -- the circuit's number is less than 4
 below : (c : tie.Start) → c .args .circuit < 4
-below c = number-lt (c .args .sender) (now (c .args .store)) (c .args .circuit) (c .pre .0) (c .pre .1 .0) (c .pre .1 .1 .1)
+below c = circuit-lt (c .args .sender) (now (c .args .store)) (c .args .circuit) (c .pre .0) (c .pre .1 .0) (c .pre .1 .1 .1)
 
 mul-listed : tie.Need-mul-listed
 mul-listed c = search needs
@@ -28,18 +28,9 @@ array-copy-out-slot : tie.Need-array-copy-out-slot
 array-copy-out-slot c = below (c .before .before .before .before .before)
 
 message-at-requires : tie.Need-message-at-requires
-unfolding slotAt noSlot
 message-at-requires c κs =
     let s = c .before .before .before .before .before .before in
-    let long = s .pre .1 .1 .1 in
-    (slotAt-short (s .args .sender) (now (s .args .store)) (s .args .circuit) (s .pre .0) (s .pre .1 .0) long, (below s, long))
-
--- the message that is lent
-message : (c : tie.After-message-at) →
-    let a = c .before .before .before .before .before .before .before .args in
-    now (c .message-at .result) ≡ messageAt (a .sender) (now (a .store)) (a .circuit)
-unfolding messageAt slotAt noSlot
-message c = c .message-at .ensures
+    (s .pre .0, (s .pre .1 .0, s .pre .1 .1 .1))
 
 packet-length-requires : tie.Need-packet-length-requires
 unfolding slotAt noSlot noCircuit
@@ -52,14 +43,14 @@ packet-length-requires c κs =
         s .pre .1 .1 .0,
         (
           extended-lt (a .sender) (now (a .store)) (a .circuit) (s .pre .0) (s .pre .1 .0) long,
-          ap length (message c) ∙ length-messageAt (a .sender) (now (a .store)) (a .circuit) (s .pre .0) (s .pre .1 .0) long,
+          ap length (c .message-at .ensures) ∙ length-messageAt (a .sender) (now (a .store)) (a .circuit) (s .pre .0) (s .pre .1 .0) long,
         ),
       ),
     )
 
 returns : tie.Need-returns
 unfolding slotAt noSlot noCircuit
-returns c = rw nextFrame-packetAt (rw (message (c .before)) at (c .packet-length .ensures))
+returns c = rw nextFrame-packetAt (rw (c .before .message-at .ensures) at (c .packet-length .ensures))
 
 pub next-length-spec : {M : Type 1} → statement M
 next-length-spec =

@@ -1,19 +1,19 @@
 -- `writing::put_next` meets its contract: the circuit, its slot and its message are lent to `put_packet`.
 use Prim.Native.Nat.{_<_}
-use mathlib.Core.Path.{_≡_, ap, _∙_}
+use mathlib.Core.Path.{ap, _∙_}
 use lib.ListN.{length}
 use borrow.Author.Needs.{needs}
 use denote.Ref.{now}
 use Rattle.packet.specs.Circuits.{noCircuit}
-use Rattle.offering.specs.Record.{noSlot, slotAt, messageAt}
+use Rattle.offering.specs.Record.{noSlot, slotAt}
 use Rattle.offering.proofs.Ranges.{slotInRange-slotAt}
-use Rattle.writing.proofs.FrameLength.{number-lt, slotAt-short, length-messageAt, extended-lt, nextFrame-packetAt}
+use Rattle.writing.proofs.FrameLength.{circuit-lt, length-messageAt, extended-lt, nextFrame-packetAt}
 use Rattle.writing.proofs.put_next.Statement.{statement}
 use Rattle.writing.proofs.put_next.Tie as tie
 
 -- the circuit's number is less than 4
 below : (c : tie.Start) → c .args .circuit < 4
-below c = number-lt (c .args .sender) (now (c .args .store)) (c .args .circuit) (c .pre .0) (c .pre .1 .0) (c .pre .1 .1 .1 .0)
+below c = circuit-lt (c .args .sender) (now (c .args .store)) (c .args .circuit) (c .pre .0) (c .pre .1 .0) (c .pre .1 .1 .1 .0)
 
 mul-listed : tie.Need-mul-listed
 mul-listed c = search needs
@@ -28,18 +28,9 @@ array-copy-out-slot : tie.Need-array-copy-out-slot
 array-copy-out-slot c = below (c .before .before .before .before .before .before)
 
 message-at-requires : tie.Need-message-at-requires
-unfolding slotAt noSlot
 message-at-requires c κs =
     let s = c .before .before .before .before .before .before .before .before in
-    let long = s .pre .1 .1 .1 .0 in
-    (slotAt-short (s .args .sender) (now (s .args .store)) (s .args .circuit) (s .pre .0) (s .pre .1 .0) long, (below s, long))
-
--- the message that is lent
-message : (c : tie.After-message-at) →
-    let a = c .before .before .before .before .before .before .before .before .before .args in
-    now (c .message-at .result) ≡ messageAt (a .sender) (now (a .store)) (a .circuit)
-unfolding messageAt slotAt noSlot
-message c = c .message-at .ensures
+    (s .pre .0, (s .pre .1 .0, s .pre .1 .1 .1 .0))
 
 put-packet-requires : tie.Need-put-packet-requires
 unfolding slotAt noSlot noCircuit
@@ -53,8 +44,8 @@ put-packet-requires c κs =
         (
           extended-lt (a .sender) (now (a .store)) (a .circuit) (s .pre .0) (s .pre .1 .0) long,
           (
-            ap length (message c) ∙ length-messageAt (a .sender) (now (a .store)) (a .circuit) (s .pre .0) (s .pre .1 .0) long,
-            rw (message c) (rw nextFrame-packetAt at (s .pre .1 .1 .1 .1)),
+            ap length (c .message-at .ensures) ∙ length-messageAt (a .sender) (now (a .store)) (a .circuit) (s .pre .0) (s .pre .1 .0) long,
+            rw (c .message-at .ensures) (rw nextFrame-packetAt at (s .pre .1 .1 .1 .1)),
           ),
         ),
       ),
@@ -67,7 +58,7 @@ returns : tie.Need-returns
 unfolding slotAt noSlot noCircuit
 returns c =
     let put = c .before .before in
-    rw nextFrame-packetAt (rw (message (put .before)) at (put .put-packet .ensures))
+    rw nextFrame-packetAt (rw (put .before .message-at .ensures) at (put .put-packet .ensures))
 
 pub put-next-spec : {M : Type 1} → statement M
 put-next-spec =

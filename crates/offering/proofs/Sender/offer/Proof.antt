@@ -6,7 +6,8 @@ use native.Mathlib.Omega.{arith}
 use lib.ListN.{length, length-take, length-drop}
 use borrow.Author.Needs.{needs}
 use Rattle.bits.proofs.Lists.{sets-part}
-use Rattle.offering.specs.Record.{region}
+use Rattle.packet.specs.Messages.{longest}
+use Rattle.packet.specs.Stores.{region}
 use Rattle.offering.specs.Offering.{offerRefusal, offeredStore}
 use Rattle.offering.proofs.Ranges.{inRange-facts}
 use Rattle.offering.proofs.Offers.{offerRefusal-zero, offer-refused, offer-accepted}
@@ -40,27 +41,32 @@ accepted c = sym (c .before .offer-refusal .ensures) ∙ none c
 abbrev Room : tie.Start → Type 0
 Room c =
     let a = c .args in
-    (a .circuit < 4) × (length (a .message .now) ≤ 4094) × (4096 * a .circuit + length (a .message .now) ≤ length (a .store .now))
+    (a .circuit < 4) × (length (a .message .now) ≤ longest) × (region * a .circuit + length (a .message .now) ≤ length (a .store .now))
 
 room : (c : tie.Else1) → Room (c .before .before .before .before .before)
+unfolding region longest
 room c =
     let facts = offerRefusal-zero _ _ _ _ _ _ (accepted c) in
     let four = inRange-facts _ (facts .inRange) in
     (omega arith, omega arith, omega arith)
 
 mul-start : tie.Need-mul-start
+unfolding region longest
 mul-start c = omega (arith, room c)
 
 sub-copy-in : tie.Need-sub-copy-in
+unfolding region longest
 sub-copy-in c = omega (arith, room c)
 
 part-copy-in-start : tie.Need-part-copy-in-start
+unfolding region longest
 part-copy-in-start c = omega (arith, room c)
 
 part-copy-in-end : tie.Need-part-copy-in-end
 part-copy-in-end c = search needs
 
 copy-in-requires : tie.Need-copy-in-requires
+unfolding region longest
 copy-in-requires c κs = simp (length-take, length-drop) (omega (arith, room (c .before)))
 
 offered-requires : tie.Need-offered-requires
@@ -74,7 +80,7 @@ unfolding offeredStore region
 returns-2 c =
     let a = c .before .before .before .before .before .before .before .before .before .before .args in
     offer-accepted _ _ _ _ _ _ _ _ (accepted (c .before .before .before .before .before)) (c .offered .ensures)
-    (sets-part (4096 * a .circuit) (a .store .now) (a .message .now) _ (room (c .before .before .before .before .before) .2) (c .before .before .before .copy-in .ensures))
+    (sets-part (region * a .circuit) (a .store .now) (a .message .now) _ (room (c .before .before .before .before .before) .2) (c .before .before .before .copy-in .ensures))
 
 pub offer-spec : {M : Type 1} → statement M
 offer-spec =

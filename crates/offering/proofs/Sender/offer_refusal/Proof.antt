@@ -5,9 +5,11 @@ use native.Mathlib.Omega.{arith}
 use mathlib.Core.Path.{_≡_, sym, _∙_}
 use mathlib.Core.Bool.{true}
 use Rattle.bits.proofs.Each.{tests}
-use Rattle.offering.specs.Record.{region, storeLength, inRange, slotAt, noSlot}
+use Rattle.packet.specs.Messages.{longest}
+use Rattle.packet.specs.Stores.{region}
+use Rattle.offering.specs.Record.{storeLength, inRange, slotAt, noSlot}
 use Rattle.offering.specs.Offering.{offerRefusal}
-use Rattle.offering.proofs.Ranges.{inRange-facts, slotInRange-facts, slotInRange-slotAt}
+use Rattle.offering.proofs.Ranges.{inRange-facts}
 use Rattle.offering.proofs.Sender.offer_refusal.Statement.{statement}
 use Rattle.offering.proofs.Sender.offer_refusal.Tie as tie
 
@@ -42,7 +44,7 @@ unfolding offerRefusal storeLength region
 returns-5 c = rw (in-range (c .before .before .before .before .before .before)) (search tests)
 
 returns-6 : tie.Need-returns-6
-unfolding offerRefusal storeLength region
+unfolding offerRefusal storeLength region longest
 returns-6 c = rw (in-range (c .before .before .before .before .before .before .before)) (search tests)
 
 mul-t : tie.Need-mul-t
@@ -52,17 +54,14 @@ array-copy-out-t : tie.Need-array-copy-out-t
 array-copy-out-t c = omega (arith, inRange-facts _ (in-range (c .before .before .before .before .before .before .before .before)) .count)
 
 pending-requires : tie.Need-pending-requires
-unfolding slotAt noSlot
-pending-requires c κs =
-    let t = slotInRange-slotAt (c .before .before .before .before .before .before .before .before .before .before .before .before .before .args .self) _ (in-range (c .before .before .before .before .before .before .before .before .before)) (c .before .before .before .before .before .if3 .left) in
-    slotInRange-facts _ t .short
+pending-requires c κs = tt
 
 returns-7 : tie.Need-returns-7
-unfolding offerRefusal storeLength region slotAt noSlot
+unfolding offerRefusal storeLength region longest slotAt noSlot
 returns-7 c = rw (in-range (c .before .before .before .before .before .before .before .before .before .before .before), ← c .before .pending .ensures, c .if7 .taken) (search tests)
 
 returns-8 : tie.Need-returns-8
-unfolding offerRefusal storeLength region slotAt noSlot
+unfolding offerRefusal storeLength region longest slotAt noSlot
 returns-8 c = rw (in-range (c .before .before .before .before .before .before .before .before .before .before .before), ← c .before .pending .ensures, c .if7 .left) (search tests)
 
 pub offer-refusal-spec : {M : Type 1} → statement M

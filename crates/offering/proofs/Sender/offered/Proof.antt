@@ -1,6 +1,7 @@
 -- `offering::Sender::offered` meets its contract.
 use mathlib.Core.Path.{refl}
 use borrow.Author.Needs.{needs}
+use Rattle.packet.specs.Messages.{longest}
 use Rattle.offering.specs.Record.{slotAt, noSlot}
 use Rattle.offering.specs.Offering.{offeredSender}
 use Rattle.offering.proofs.Sender.offered.Statement.{statement}
@@ -13,6 +14,7 @@ array-copy-out-t : tie.Need-array-copy-out-t
 array-copy-out-t c = search needs
 
 cast-t13 : tie.Need-cast-t13
+unfolding longest
 cast-t13 c = search needs
 
 mul-slots : tie.Need-mul-slots

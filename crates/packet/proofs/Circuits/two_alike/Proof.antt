@@ -4,8 +4,8 @@ use Prim.Native.Nat.{_-_}
 use native.Mathlib.Omega.{arith}
 use mathlib.Core.Path.{_≡_, refl, sym, _∙_}
 use lib.ListN.{length, take, drop, length-map}
-use Rattle.packet.specs.Circuits.{twoAlike, listed, noCircuit}
-use Rattle.packet.proofs.CircuitLists.{twoAlike-found, twoAlike-next, twoAlike-end}
+use Rattle.packet.specs.Circuits.{meets, twoAlike, listed, noCircuit}
+use Rattle.packet.proofs.CircuitLists.{anyOf-alike, twoAlike-found, twoAlike-next, twoAlike-end}
 use Rattle.packet.proofs.Circuits.two_alike.Statement.{statement}
 use Rattle.packet.proofs.Circuits.two_alike.Tie as tie
 
@@ -33,17 +33,17 @@ mul-c c = omega arith
 array-copy-out-c : tie.Need-array-copy-out-c Inv-loop μ-loop
 array-copy-out-c c = c .before .loop-test .taken
 
-add-some-alike : tie.Need-add-some-alike Inv-loop μ-loop
-add-some-alike c = omega arith
+add-any : tie.Need-add-any Inv-loop μ-loop
+add-any c = omega arith
 
-some-alike-requires : tie.Need-some-alike-requires Inv-loop μ-loop
-some-alike-requires c κs = tt
+any-requires : tie.Need-any-requires Inv-loop μ-loop
+any-requires c κs = tt
 
 returns-2 : tie.Need-returns-2 Inv-loop μ-loop
-unfolding listed noCircuit
+unfolding listed noCircuit meets
 returns-2 c =
     let cs = c .before .before .before .before .before .before .before .before .args .self in
-    sym (twoAlike-found (c .before .before .before .before .before .loop .i) (cs .count) (cs .list) (omega arith) (omega arith) (sym (c .before .some-alike .ensures) ∙ c .if2 .taken)) ∙ c .before .before .before .before .before .loop .inv .1
+    sym (twoAlike-found (c .before .before .before .before .before .loop .i) (cs .count) (cs .list) (omega arith) (omega arith) (sym (c .before .any .ensures ∙ anyOf-alike _ _) ∙ c .if2 .taken)) ∙ c .before .before .before .before .before .loop .inv .1
 
 add-i : tie.Need-add-i Inv-loop μ-loop
 add-i c = omega arith
@@ -52,10 +52,10 @@ loop-less : tie.Need-loop-less Inv-loop μ-loop
 loop-less c = omega arith
 
 loop-again : tie.Need-loop-again Inv-loop μ-loop
-unfolding listed noCircuit
+unfolding listed noCircuit meets
 loop-again c =
     let cs = c .before .before .before .before .before .before .before .before .args .self in
-    (c .before .before .before .before .before .loop .inv .0, sym (twoAlike-next (c .before .before .before .before .before .loop .i) (cs .count) (cs .list) (omega arith) (omega arith) (sym (c .before .some-alike .ensures) ∙ c .if2 .left)) ∙ c .before .before .before .before .before .loop .inv .1)
+    (c .before .before .before .before .before .loop .inv .0, sym (twoAlike-next (c .before .before .before .before .before .loop .i) (cs .count) (cs .list) (omega arith) (omega arith) (sym (c .before .any .ensures ∙ anyOf-alike _ _) ∙ c .if2 .left)) ∙ c .before .before .before .before .before .loop .inv .1)
 
 returns-3 : tie.Need-returns-3 Inv-loop μ-loop
 unfolding listed
@@ -74,8 +74,8 @@ two-alike-spec =
     returns
     mul-c
     array-copy-out-c
-    add-some-alike
-    some-alike-requires
+    add-any
+    any-requires
     returns-2
     add-i
     loop-less

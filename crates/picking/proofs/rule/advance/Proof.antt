@@ -4,7 +4,7 @@ use Prim.Native.Nat.{_+_, _%_}
 use native.Mathlib.Omega.{arith}
 use borrow.Author.Needs.{needs}
 use Rattle.packet.proofs.Segments.{packets-most}
-use Rattle.picking.proofs.PickingLaws.{slotPending, advanced-copied, advanced-passed}
+use Rattle.picking.proofs.PickingLaws.{slotPending, advanced-copied, advanced-movedOn}
 use Rattle.picking.proofs.rule.advance.Statement.{statement}
 use Rattle.picking.proofs.rule.advance.Tie as tie
 
@@ -28,7 +28,7 @@ returns-2 : tie.Need-returns-2
 returns-2 c =
     let t = c .before .before .before .before .args .t in
     let e : c .before .wrapping-add-u8 .result % 8 ≡ (t .index + 1) % 8 = omega (arith, c .before .wrapping-add-u8 .ensures) in
-    rw e (sym (advanced-passed t (c .before .before .if1 .left)))
+    rw e (sym (advanced-movedOn t (c .before .before .if1 .left)))
 
 pub advance-spec : {M : Type 1} → statement M
 advance-spec = tie.close (tie.spec add-next returns wrapping-add-u8-requires add-next-2 returns-2)

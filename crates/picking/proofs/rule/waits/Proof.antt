@@ -1,7 +1,6 @@
 -- `picking::rule::waits` meets its contract: of the two tests the cheaper is made first.
 use mathlib.Core.Path.{sym, _∙_}
 use mathlib.Core.Bool.{and-true, and-false}
-use borrow.Author.Needs.{needs}
 use borrow.Author.Tests.{eq-eqb, ne-eqb}
 use Rattle.offering.specs.Record.{pending}
 use Rattle.picking.proofs.rule.waits.Statement.{statement}
@@ -13,7 +12,7 @@ returns c =
     rw (ne-eqb (a .t .priority) (a .priority) (c .if1 .taken)) (sym (and-false (pending (a .t))))
 
 pending-requires : tie.Need-pending-requires
-pending-requires c κs = search needs
+pending-requires c κs = tt
 
 returns-2 : tie.Need-returns-2
 returns-2 c =

@@ -1,6 +1,7 @@
 -- `receiver::Receiver::fresh` meets its contract.
 use borrow.Author.Needs.{needs}
-use Rattle.receiver.specs.Record.{fresh, freshSlot}
+use Rattle.notices.specs.Slots.{freshSlot}
+use Rattle.receiver.specs.Record.{fresh}
 use Rattle.receiver.proofs.Receiver.fresh.Statement.{statement}
 use Rattle.receiver.proofs.Receiver.fresh.Tie as tie
 

@@ -10,7 +10,7 @@ use lib.ListN.{getD}
 use lib.Seq.{length-take-le}
 use Rattle.bits.proofs.Bits.{Bytes-each}
 use Rattle.framing.proofs.ScanInRange.{Array21}
-use Rattle.receiver.proofs.ReadLaws.{before-scan, from-least, packet-fits, before-hearing, ReadCalled-quiet, ReadCalled-packet}
+use Rattle.receiver.proofs.ReadLaws.{before-scan, from-least, packet-fits, before-packet, ReadCalled-quiet, ReadCalled-packet}
 use Rattle.receiver.proofs.Receiver.read_on.Statement.{statement}
 use Rattle.receiver.proofs.Receiver.read_on.Tie as tie
 
@@ -61,17 +61,17 @@ array-share-prefix-packet c =
     packet-fits (a .self) (now (a .store)) (now (a .bytes)) (a .from) (a .to) (s .pre) (scan .scan .ensures) (f .with-framing .ensures)
     (check .check .given .1) (array s)
 
-slice-aggregate-hear : tie.Need-slice-aggregate-hear
-slice-aggregate-hear c = sym (length-take-le _ _ (array-share-prefix-packet (c .before)))
+slice-aggregate-read-packet : tie.Need-slice-aggregate-read-packet
+slice-aggregate-read-packet c = sym (length-take-le _ _ (array-share-prefix-packet (c .before)))
 
-hear-requires : tie.Need-hear-requires
-hear-requires c κs =
+read-packet-requires : tie.Need-read-packet-requires
+read-packet-requires c κs =
     let check = c .before .before .before .before in
     let f = check .before .before in
     let scan = f .before .before in
     let s = scan .before .before .before .before in
     let a = s .args in
-    before-hearing (a .self) (now (a .store)) (now (a .bytes)) (a .from) (a .to) (s .pre) (scan .scan .ensures) (f .with-framing .ensures)
+    before-packet (a .self) (now (a .store)) (now (a .bytes)) (a .from) (a .to) (s .pre) (scan .scan .ensures) (f .with-framing .ensures)
     (check .check .given .1) (array s)
 
 same-length : tie.Need-same-length
@@ -79,14 +79,14 @@ same-length c = search needs
 
 returns-2 : tie.Need-returns-2
 returns-2 c =
-    let hear = c .before .before .before in
-    let check = hear .before .before .before .before .before in
+    let reads = c .before .before in
+    let check = reads .before .before .before .before .before in
     let f = check .before .before in
     let scan = f .before .before in
     let s = scan .before .before .before .before in
     let a = s .args in
     ReadCalled-packet (a .self) (now (a .store)) (now (a .bytes)) (a .from) (a .to) (s .pre) (scan .scan .ensures) (f .with-framing .ensures)
-    (check .check .given .1) (hear .hear .ensures)
+    (check .check .given .1) (reads .read-packet .ensures)
 
 pub read-on-spec : {M : Type 1} → statement M
 read-on-spec =
@@ -99,7 +99,7 @@ read-on-spec =
     quiet-notice-requires
     returns
     array-share-prefix-packet
-    slice-aggregate-hear
-    hear-requires
+    slice-aggregate-read-packet
+    read-packet-requires
     same-length
     returns-2)

@@ -4,6 +4,8 @@ use borrow.Author.Tests.{not-true, not-false}
 use denote.Ref.{now}
 use mathlib.Core.Bool.{true}
 use mathlib.Core.Path.{_≡_, _∙_, sym}
+use Rattle.packet.specs.Stores.{region}
+use Rattle.notices.specs.Stores.{systemPlace, storeLength}
 use Rattle.receiver.specs.Record.{inRange}
 use Rattle.receiver.proofs.ReadLaws.{gives-14, gives-5, gives-15-turned, gives-15-past, gives-0}
 use Rattle.receiver.proofs.Receiver.read_refusal.Statement.{statement}
@@ -23,12 +25,14 @@ returns c =
     (sym (c .before .in-range .ensures) ∙ not-true (c .before .in-range .result) (c .if1 .taken))
 
 returns-2 : tie.Need-returns-2
+unfolding storeLength systemPlace region
 returns-2 c =
     let one = c .before in
     let a = one .before .before .before .before .args in
     gives-5 (a .self) (now (a .store)) (now (a .bytes)) (a .from) (a .to) (range one) (c .if2 .taken)
 
 returns-3 : tie.Need-returns-3
+unfolding storeLength systemPlace region
 returns-3 c =
     let one = c .before .before in
     let a = one .before .before .before .before .args in
@@ -38,6 +42,7 @@ past-requires : tie.Need-past-requires
 past-requires c κs = search needs
 
 returns-4 : tie.Need-returns-4
+unfolding storeLength systemPlace region
 returns-4 c =
     let three = c .before .before in
     let one = three .before .before in
@@ -46,6 +51,7 @@ returns-4 c =
     (sym (c .before .past .ensures) ∙ c .if4 .taken)
 
 returns-5 : tie.Need-returns-5
+unfolding storeLength systemPlace region
 returns-5 c =
     let three = c .before .before in
     let one = three .before .before in

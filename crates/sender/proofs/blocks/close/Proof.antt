@@ -1,4 +1,10 @@
 -- `sender::blocks::close` meets its contract: two runs are written, one behind the other.
+use Prim.Native.Nat.{_+_, _-_, _*_, _/_}
+use mathlib.Core.Bool.{Bool, false}
+use mathlib.Core.List.{List}
+use mathlib.Core.Path.{ap, _∙_}
+use lib.ListN.{replicate}
+use lib.Seq.{sets}
 use borrow.Author.Needs.{needs}
 use Rattle.sender.proofs.blocks.close.Statement.{statement}
 use Rattle.sender.proofs.blocks.close.Tie as tie
@@ -28,7 +34,10 @@ returns : tie.Need-returns
 returns c =
     let zeros = c .before .before in
     let ones = zeros .before .before .before .before in
-    record { bits = cc (zeros .put-run2 .ensures, ones .put-run .ensures) }
+    let n = ones .before .before .before .args .n in
+    record {
+      bits = zeros .put-run2 .ensures ∙ ap (λ (l : List Bool). sets l n (replicate (8 * ((n + 7) / 8) - n) false)) (ones .put-run .ensures);
+    }
 
 pub close-spec : {M : Type 1} → statement M
 close-spec =

@@ -2,7 +2,6 @@
 use borrow.Author.Needs.{needs}
 use denote.Ref.{now}
 use Rattle.bits.proofs.Bits.{Bytes-each}
-use Rattle.sender.specs.Blocks.{enableBits}
 use Rattle.sender.specs.BlockCalls.{system}
 use Rattle.sender.proofs.BlockSteps.{before-opening, before-frames, before-closing, BlockCalled-made}
 use Rattle.sender.proofs.blocks.write_block.Statement.{statement}
@@ -27,7 +26,6 @@ fill-requires c κs =
     (system (a .wanted) (a .enable) (a .code) (now (a .information))) (s .pre) (opened .put-opening .ensures) (opened .put-opening .kept .0)
 
 close-requires : tie.Need-close-requires
-unfolding enableBits
 close-requires c κs =
     let f = c .before .before .before in
     let enable = f .before in
@@ -36,13 +34,12 @@ close-requires c κs =
     let a = s .args in
     before-closing (a .sender) (now (a .store)) (now (a .buf)) (a .n) (a .u)
     (system (a .wanted) (a .enable) (a .code) (now (a .information))) (s .pre) (opened .put-opening .ensures) (opened .put-opening .kept .0)
-    (enable .enable-bits .ensures) (f .fill .ensures) (f .fill .kept .0)
+    (enable .enable-bits .ensures (a .code) (now (a .information))) (f .fill .ensures) (f .fill .kept .0)
 
 same-length : tie.Need-same-length
 same-length c = search needs
 
 returns : tie.Need-returns
-unfolding enableBits
 returns c =
     let end = c .before .before .before in
     let f = end .before .before .before .before in
@@ -52,7 +49,7 @@ returns c =
     let a = s .args in
     BlockCalled-made (a .sender) (now (a .store)) (now (a .buf)) (a .n) (a .u)
     (system (a .wanted) (a .enable) (a .code) (now (a .information))) (s .pre) (opened .put-opening .ensures) (opened .put-opening .kept .0)
-    (enable .enable-bits .ensures) (f .fill .ensures) (f .fill .kept .0) (end .close .ensures)
+    (enable .enable-bits .ensures (a .code) (now (a .information))) (f .fill .ensures) (f .fill .kept .0) (end .close .ensures)
     (Bytes-each (now (a .buf)) (λ i. opened .before .before .before .slice-known .given i .fits))
     (Bytes-each (end .close .last .0) (λ i. c .before .slice-known4 .given i .fits))
 

@@ -1,0 +1,73 @@
+// A slot has a copy to place or none, and slots and records are in range or not.
+ghost use mathlib.Core.Path.{_≡_};
+ghost use Prim.Native.Nat.{_≤_};
+ghost use lib.ListN.{take};
+ghost use Rattle.offering.specs.Record.{pending, slotInRange, slotsInRange, inRange};
+use super::Sender;
+use super::Slot;
+
+// A message of the slot has a copy to place.
+pub fn pending(t: Slot) -> bool
+    ensures { λ r. ⌜ r ≡ pending t ⌝ }
+{
+    (t.place as usize) < packet::packets(t.length as usize)
+}
+
+// The slot is in range.
+fn slot_in_range(t: Slot) -> bool
+    ensures { λ r. ⌜ r ≡ slotInRange t ⌝ }
+{
+    if 7 < t.index {
+        return false;
+    }
+    if 3 < t.priority {
+        return false;
+    }
+    if 5 < t.repetition {
+        return false;
+    }
+    let length = t.length as usize;
+    if packet::LONGEST_MESSAGE < length {
+        return false;
+    }
+    if packet::packets(length) < t.place as usize {
+        return false;
+    }
+    t.copy <= t.repetition
+}
+
+// The first slots are in range.
+fn slots_in_range(slots: [Slot; 4], count: usize) -> bool
+    requires { ⌜ count ≤ 4 ⌝ }
+    ensures { λ r. ⌜ r ≡ slotsInRange (take count slots) ⌝ }
+{
+    let mut i = 0;
+    while i < count {
+        let t = slots[i];
+        if !slot_in_range(t) {
+            return false;
+        }
+        i += 1;
+    }
+    true
+}
+
+impl Sender {
+    // The record is in range.
+    pub fn in_range(self) -> bool
+        ensures { λ r. ⌜ r ≡ inRange self ⌝ }
+    {
+        let circuits = self.circuits;
+        if 4 < circuits.count {
+            return false;
+        }
+        if circuits.refusal() != 0 {
+            return false;
+        }
+        if 3 < self.last {
+            return false;
+        }
+        let slots = self.slots;
+        slots_in_range(slots, circuits.count as usize)
+    }
+}

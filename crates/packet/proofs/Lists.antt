@@ -1,0 +1,28 @@
+-- Lists all of whose elements are so.
+use Prim.Native.Nat.{ℕ, zero, suc}
+use mathlib.Core.List.{List, [], _∷_, _++_}
+use lib.ListN.{take, set, replicate}
+use Rattle.packet.specs.Lists.{AllAre}
+
+module _ {A : Type 0} (P : A → Type 0) where
+  pub AllAre-append : (a b : List A) → AllAre P a → AllAre P b → AllAre P (a ++ b)
+  unfolding AllAre
+  AllAre-append [] b h k = k
+  AllAre-append (x ∷ a) b h k = (h .0, AllAre-append a b (h .1) k)
+
+  pub AllAre-take : (n : ℕ) (l : List A) → AllAre P l → AllAre P (take n l)
+  unfolding AllAre
+  AllAre-take zero l h = tt
+  AllAre-take (suc n) [] h = tt
+  AllAre-take (suc n) (x ∷ l) h = (h .0, AllAre-take n l (h .1))
+
+  pub AllAre-replicate : (n : ℕ) (x : A) → P x → AllAre P (replicate n x)
+  unfolding AllAre
+  AllAre-replicate zero x h = tt
+  AllAre-replicate (suc n) x h = (h, AllAre-replicate n x h)
+
+  pub AllAre-set : (l : List A) (i : ℕ) (x : A) → P x → AllAre P l → AllAre P (set l i x)
+  unfolding AllAre
+  AllAre-set [] i x h k = tt
+  AllAre-set (y ∷ l) zero x h k = (h, k .1)
+  AllAre-set (y ∷ l) (suc i) x h k = (k .0, AllAre-set l i x h (k .1))

@@ -1,0 +1,3 @@
+-- The laws of `parsing`.
+pub mod PacketParts
+pub mod HeaderParts

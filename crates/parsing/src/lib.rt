@@ -1,0 +1,4 @@
+// A packet that passed, taken apart.
+
+pub mod headers;
+pub mod packets;

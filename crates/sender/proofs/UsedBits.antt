@@ -1,0 +1,28 @@
+-- The bits used in a block: those of the frames before ours, and behind them those of ours; they are at most U.
+use Prim.Native.Nat.{ℕ, _≤_}
+use mathlib.Core.List.{List, [], _∷_, _++_, append-assoc}
+use mathlib.Core.Path.{_≡_, refl, sym}
+use lib.ListN.{length, length-append}
+use Rattle.hdlc.specs.Frames.{flag, frame}
+use Rattle.offering.specs.declared.Sender.{Sender}
+use Rattle.sender.specs.Blocks.{framesBits, flaggedFrames, placedPackets, blockFilled, blockPackets, usedBits}
+use Rattle.sender.proofs.Filling.{fillUp-used}
+
+framesBits-append : (ps qs : List (List ℕ)) → framesBits (ps ++ qs) ≡ framesBits ps ++ framesBits qs
+unfolding framesBits
+framesBits-append [] qs = refl
+framesBits-append (p ∷ ps) qs = rw (framesBits-append ps qs) (sym (append-assoc (frame p ++ flag) (framesBits ps) (framesBits qs)))
+
+flaggedFrames-append : (ps qs : List (List ℕ)) → flaggedFrames (ps ++ qs) ≡ flaggedFrames ps ++ framesBits qs
+unfolding flaggedFrames
+flaggedFrames-append ps qs = rw (framesBits-append ps qs) (sym (append-assoc flag (framesBits ps) (framesBits qs)))
+
+module _ (s : Sender) (store : List ℕ) (u : ℕ) (before : List (List ℕ)) (enable : ℕ) where
+  pub usedBits-behind : usedBits s store u before enable
+      ≡ flaggedFrames before ++ framesBits (placedPackets (blockFilled s store u before enable .frames))
+  unfolding usedBits blockPackets
+  usedBits-behind = flaggedFrames-append before (placedPackets (blockFilled s store u before enable .frames))
+
+  pub used-within : length (flaggedFrames before) ≤ u → length (usedBits s store u before enable) ≤ u
+  unfolding blockFilled
+  used-within h = rw (usedBits-behind, length-append) (fillUp-used s store (length (flaggedFrames before)) enable u h)
