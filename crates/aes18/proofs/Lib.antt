@@ -1,13 +1,4 @@
--- The laws of `aes18`: what its functions' proofs cite; then that the bytes lent carry each end's record from call to call.
+-- The laws of `aes18`: what its functions' proofs cite.
 pub mod Clipping
 pub mod SenderOutcomes
 pub mod ReceiverOutcomes
-pub mod Fitting
-pub mod SenderFitsKept
-pub mod BlockAnswers
-pub mod SenderCarried
-pub mod NoRoom
-pub mod SenderLists
-pub mod ReceiverFitsKept
-pub mod ReceiverCarried
-pub mod ReceiverLists

@@ -11,7 +11,7 @@ use Rattle.packet.specs.Packets.{control}
 use Rattle.framing.specs.Machine.{empty, fresh, oneRead, zeroRead, step, run, closes}
 use Rattle.framing.specs.Closings.{closings}
 use Rattle.parsing.specs.Packets.{index}
-use Rattle.parsing.specs.Packets.{control as controlOf}
+use Rattle.parsing.specs.Packets.{controlIn}
 use Rattle.notices.specs.Fates.{lossOf, isCopy, fateOf}
 use Rattle.joints.specs.Joints.{Joints}
 
@@ -21,7 +21,7 @@ unfolding odd lowBits byteBits bitsOf stuffFrom stuff
     empty fresh oneRead zeroRead step run closes closings
     xor poly divided fcsBit fcsRun preset complement fcsOf lowFirst
     header packets linkOf control
-    index controlOf lossOf isCopy fateOf
+    index controlIn lossOf isCopy fateOf
 joints =
     record {
       stuff-FF = refl;

@@ -38,7 +38,7 @@ use Rattle.packet.specs.Stores.{region}
 use Rattle.notices.specs.Stores.{systemPlace, storeLength, placeOf, storeAfterFate, storeAfterNotice}
 use Rattle.notices.specs.Slots.{freshSlot, slotAt, open-message, slotInRange, slotsInRange}
 use Rattle.receiver.specs.Record.{fresh, inRange}
-use Rattle.parsing.specs.Packets.{address, control as controlIn, link, extended, index, lead, segment as segmentIn, circuitIn, descriptor, code, information, enable, malformedSystem, malformed}
+use Rattle.parsing.specs.Packets.{address, controlIn, link, extended, index, lead, segmentIn, circuitIn, descriptor, code, information, enable, malformedSystem, malformed}
 use Rattle.parsing.specs.Headers.{twoBytes, headerLength, messageLength, wrongHeader, messagePart}
 use Rattle.notices.specs.Fates.{isCopy, lossOf, stillOpen, firstFate, lastFate, fateOf, closedSlot, slotAfter}
 use Rattle.notices.specs.Heard.{heardAt, heardBy, systemHeard, heard}

@@ -25,7 +25,7 @@ use Rattle.queues.specs.Effects.{Effect, noEffect, sendsMessage, takesFrames, t
 use Rattle.queues.specs.Calls.{Call, offer, block, End, accepted, afterCall, effect, effects}
 use Rattle.sender.proofs.BlockRefusals.{accepted as block-accepted}
 use Rattle.queues.proofs.Queues.{taking-cases}
-use Rattle.queues.proofs.StandsCalls.{stands-fresh, effectOf-cases, Right, AllRight, right-calls}
+use Rattle.queues.proofs.StandsCalls.{stands-fresh, effectOf-cases, RightEffect, AllRight, right-calls}
 use Rattle.link.specs.Demand3.{Pass, sender, queues, effectsOfCalls, blocks, Frame, InBlock, notOurs, ours, packetsIn, framesFrom, framesInBlocks, frames, BytesIn}
 use Rattle.link.proofs.Steps.{RightCircuit, Made, MadeSystem, MadeBy, AllMade}
 
@@ -160,10 +160,10 @@ made-takeFrames q at enable u right = made-takeUpTo (copiesInQueues (q .queues))
 -- ---- effects
 
 -- what an effect has of the bytes that its call was lent: a message is bytes, and the packets before ours are system packets
-Lent : Effect → Type 0
-Lent noEffect = Unit {0}
-Lent (sendsMessage c priority repetition message) = Bytes message
-Lent (takesFrames t) = AllAre MadeSystem (t .before)
+EffectLent : Effect → Type 0
+EffectLent noEffect = Unit {0}
+EffectLent (sendsMessage c priority repetition message) = Bytes message
+EffectLent (takesFrames t) = AllAre MadeSystem (t .before)
 
 -- the packets before ours and our frames are made so
 record MadeBlock (b : TakenBlock) : Type 0 where
@@ -171,8 +171,8 @@ record MadeBlock (b : TakenBlock) : Type 0 where
   frames : MadePlaced (b .frames)
 
 -- an effect leaves right queues and makes such blocks
-made-effect : (x : Effect) (q : Queues) → Right q x → Lent x → RightQueues q → RightQueues (queuesAfterEffect q x) × AllAre MadeBlock (takenBy q x)
-unfolding Right Lent queuesAfterEffect takenBy takenFor AllAre MadeTaken
+made-effect : (x : Effect) (q : Queues) → RightEffect q x → EffectLent x → RightQueues q → RightQueues (queuesAfterEffect q x) × AllAre MadeBlock (takenBy q x)
+unfolding RightEffect EffectLent queuesAfterEffect takenBy takenFor AllAre MadeTaken
 made-effect noEffect q right lent queues = (queues, tt)
 made-effect (sendsMessage c priority repetition message) q right lent queues =
     (right-offer priority message (right .1) (right .2) lent q c repetition queues, tt)
@@ -180,7 +180,7 @@ made-effect (takesFrames t) q right lent queues =
     let taken = made-takeFrames q _ (t .enable) (t .usable) queues in
     (taken .0, (record { before = lent; frames = taken .1 }, tt))
 
-made-effects : (xs : List Effect) (q : Queues) → AllRight q xs → AllAre Lent xs → RightQueues q → AllAre MadeBlock (blocksTaken q xs)
+made-effects : (xs : List Effect) (q : Queues) → AllRight q xs → AllAre EffectLent xs → RightQueues q → AllAre MadeBlock (blocksTaken q xs)
 unfolding AllRight AllAre blocksTaken
 made-effects [] q right lent queues = tt
 made-effects (x ∷ xs) q right lent queues =
@@ -190,8 +190,8 @@ made-effects (x ∷ xs) q right lent queues =
 
 -- ---- calls
 
-lent-accepted : (call : Call) (e : End) → BytesIn call → accepted e call ≡ true → Lent (effect call)
-unfolding effect accepted BytesIn Lent AllAre systemPackets
+lent-accepted : (call : Call) (e : End) → BytesIn call → accepted e call ≡ true → EffectLent (effect call)
+unfolding effect accepted BytesIn EffectLent AllAre systemPackets
 lent-accepted (offer c priority repetition message) e bytes a = bytes
 lent-accepted (block n u buffer y) e bytes a =
     let f = block-accepted (e .sender) (e .store) buffer n u y (eqb-true (blockRefusal (e .sender) (e .store) buffer n u y) 0 a) in
@@ -209,11 +209,11 @@ lent-accepted (block n u buffer y) e bytes a =
     } in
     cond-either (AllAre MadeSystem) (y .wanted) _ _ (λ w. (made w, tt)) (λ _. tt)
 
-lent-calls : (calls : List Call) (e : End) → AllAre BytesIn calls → AllAre Lent (effects e calls)
-unfolding effects AllAre Lent
+lent-calls : (calls : List Call) (e : End) → AllAre BytesIn calls → AllAre EffectLent (effects e calls)
+unfolding effects AllAre EffectLent
 lent-calls [] e bytes = tt
 lent-calls (call ∷ calls) e bytes =
-    (effectOf-cases Lent call e (lent-accepted call e (bytes .0)) tt, lent-calls calls (afterCall e call) (bytes .1))
+    (effectOf-cases EffectLent call e (lent-accepted call e (bytes .0)) tt, lent-calls calls (afterCall e call) (bytes .1))
 
 -- ---- the frames of blocks
 

@@ -15,7 +15,7 @@ use Rattle.notices.specs.declared.Slot.{Slot}
 use Rattle.notices.specs.declared.Fate.{Fate}
 use Rattle.notices.specs.declared.Fate.the-variants.{Begun, Held, Whole, Orphan, Wrong}
 use Rattle.notices.specs.Slots.{freshSlot}
-use Rattle.parsing.specs.Packets.{index, link, segment}
+use Rattle.parsing.specs.Packets.{index, link, segmentIn}
 use Rattle.parsing.specs.Headers.{headerLength, messageLength, wrongHeader}
 use Rattle.notices.specs.Fates.{isCopy, lossOf, stillOpen, firstFate, betweenFate, lastFate, fateOf, closedSlot, slotAfter}
 use Rattle.packet.proofs.Choices.{cond-either}
@@ -36,7 +36,7 @@ data New : Fate → Type 0 where
 new-fate : (t : Slot) (p : List ℕ) → isCopy t p ≡ false → New (fateOf t p)
 unfolding fateOf firstFate betweenFate lastFate
 new-fate t p e =
-    let s : List ℕ = segment p in
+    let s : List ℕ = segmentIn p in
     let body : ℕ = length s - headerLength s in
     rw e
     (cond-either New (eqb (link p) 2) _ _

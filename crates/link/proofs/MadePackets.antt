@@ -11,7 +11,7 @@ use lib.Dec.{eqb}
 use Rattle.packet.specs.declared.Circuit.{Circuit}
 use Rattle.packet.specs.Packets.{extensionOf, packetOf, systemPacket}
 use Rattle.packet.specs.Packets.{control as controlOf}
-use Rattle.parsing.specs.Packets.{address, control, link, extended, lead, segment, circuitIn, descriptor, code, information, malformedSystem, malformed}
+use Rattle.parsing.specs.Packets.{address, controlIn, link, extended, lead, segmentIn, circuitIn, descriptor, code, information, malformedSystem, malformed}
 use Rattle.parsing.proofs.PacketParts.{length-segment}
 use Rattle.link.proofs.Steps.{RightCircuit}
 
@@ -23,8 +23,8 @@ module _ (k : Circuit) (right : RightCircuit k) (l i y : ℕ) (s : List ℕ) (l-
   unfolding address packetOf
   address-made = ne-eqb (k .address) 0xff (omega (arith, right .address))
 
-  control-made : control (packetOf k l i y s) ≡ 64 * l + 32 * k .extended + 4 * i + y
-  unfolding control packetOf controlOf
+  control-made : controlIn (packetOf k l i y s) ≡ 64 * l + 32 * k .extended + 4 * i + y
+  unfolding controlIn packetOf controlOf
   control-made = refl
 
   pub link-made : link (packetOf k l i y s) ≡ l
@@ -36,8 +36,8 @@ module _ (k : Circuit) (right : RightCircuit k) (l i y : ℕ) (s : List ℕ) (l-
   extended-made = omega (arith, control-made, right .extended)
 
   -- the segment and the circuit, without an extension byte and with one
-  pub segment-made : segment (packetOf k l i y s) ≡ s
-  unfolding segment lead packetOf extensionOf
+  pub segment-made : segmentIn (packetOf k l i y s) ≡ s
+  unfolding segmentIn lead packetOf extensionOf
   segment-made = go (eqb (k .extended) 0) refl
     where
       go : (t : Bool) → eqb (k .extended) 0 ≡ t → drop (2 + extended (packetOf k l i y s)) (packetOf k l i y s) ≡ s
@@ -80,20 +80,20 @@ module _ (e c : ℕ) (v : List ℕ) where
   module _ (e-le : e ≤ 15) where
     -- links 11, A4 and A5 not set
     system-link : link (systemPacket e c v) ≡ 3
-    unfolding link control systemPacket
+    unfolding link controlIn systemPacket
     system-link = omega arith
 
-    system-bit : control (systemPacket e c v) / 16 % 2 ≡ 0
-    unfolding control systemPacket
+    system-bit : controlIn (systemPacket e c v) / 16 % 2 ≡ 0
+    unfolding controlIn systemPacket
     system-bit = omega arith
 
     system-extended : extended (systemPacket e c v) ≡ 0
-    unfolding extended control systemPacket
+    unfolding extended controlIn systemPacket
     system-extended = omega arith
 
     -- the descriptor, and the information behind it
-    system-segment : segment (systemPacket e c v) ≡ (16 * c + length v) ∷ v
-    unfolding segment lead systemPacket
+    system-segment : segmentIn (systemPacket e c v) ≡ (16 * c + length v) ∷ v
+    unfolding segmentIn lead systemPacket
     system-segment = rw system-extended
 
     system-information : information (systemPacket e c v) ≡ v

@@ -17,7 +17,7 @@ use Rattle.notices.specs.declared.Slot.{Slot}
 use Rattle.notices.specs.declared.Fate.{Fate}
 use Rattle.notices.specs.declared.Fate.the-variants.{Begun, Held, Whole, Orphan}
 use Rattle.packet.specs.Stores.{region}
-use Rattle.parsing.specs.Packets.{link, index, segment}
+use Rattle.parsing.specs.Packets.{link, index, segmentIn}
 use Rattle.parsing.specs.Headers.{twoBytes, headerLength, messageLength, wrongHeader, messagePart}
 use Rattle.notices.specs.Fates.{isCopy, lossOf, stillOpen, betweenFate, lastFate, fateOf, closedSlot, slotAfter}
 use Rattle.notices.specs.Stores.{placeOf, storeAfterFate}
@@ -109,17 +109,17 @@ pub record Carries (text : List ℕ) (j : ℕ) (p : List ℕ) : Type 0 where
   pub short : length text ≤ 4094
   pub inside : j < packets (length text)
   pub linked : link p ≡ linkOf j (packets (length text))
-  pub segmented : segment p ≡ segmentOf text j
+  pub segmented : segmentIn p ≡ segmentOf text j
 
 -- the part in its segment, in the first packet behind the header
-carried-first : (text p : List ℕ) → Carries text 0 p → segment p ≡ header (length text) ++ part text 0
+carried-first : (text p : List ℕ) → Carries text 0 p → segmentIn p ≡ header (length text) ++ part text 0
 unfolding part
 carried-first text p c = c .segmented ∙ segment-part text 0
 
-length-first : (text p : List ℕ) → Carries text 0 p → length (segment p) ≡ length (header (length text)) + length (part text 0)
+length-first : (text p : List ℕ) → Carries text 0 p → length (segmentIn p) ≡ length (header (length text)) + length (part text 0)
 length-first text p c = rw (carried-first text p c) (length-append (header (length text)) (part text 0))
 
-carried-later : (text : List ℕ) (j : ℕ) (p : List ℕ) → Carries text (suc j) p → segment p ≡ part text (suc j)
+carried-later : (text : List ℕ) (j : ℕ) (p : List ℕ) → Carries text (suc j) p → segmentIn p ≡ part text (suc j)
 unfolding part
 carried-later text j p c = c .segmented ∙ rw (segment-part text (suc j), eqb·suc-zero)
 
@@ -145,7 +145,7 @@ link-later text j p c = rw (c .linked, eqb·suc-zero) (go (eqb (suc j + 1) (pack
     go false e = omega arith
 
 -- its message bytes are that part
-told-carried : (text p : List ℕ) → Carries text 0 p → HeaderTells (length text) (segment p)
+told-carried : (text p : List ℕ) → Carries text 0 p → HeaderTells (length text) (segmentIn p)
 told-carried text p c = rw (carried-first text p c) (told (length text) (part text 0) (c .short))
 
 messagePart-carried : (text : List ℕ) (j : ℕ) (p : List ℕ) → Carries text j p → messagePart p ≡ part text j
@@ -153,7 +153,7 @@ unfolding messagePart
 messagePart-carried text zero p c =
     rw (← link-first text p c, ← told-carried text p c .size, carried-first text p c) (drop-append-seam (header (length text)) (part text 0))
 messagePart-carried text (suc j) p c =
-    sym (messagePart-later p (segment p) (link p) refl refl (link-later text j p c)) ∙ carried-later text j p c
+    sym (messagePart-later p (segmentIn p) (link p) refl refl (link-later text j p c)) ∙ carried-later text j p c
 
 -- ---- a packet that is due: it is no copy, and behind the first one the message is open up to its part and none was lost
 
@@ -186,27 +186,27 @@ fate-end : (text : List ℕ) (j : ℕ) (t : Slot) (p : List ℕ) → Due text j 
 unfolding partFrom lastFate
 fate-end text zero t p d e =
     let k = told-carried text p (d .carries) in
-    let all : length (segment p) - length (header (length text)) ≡ length text = omega (arith, length-first text p (d .carries), part-end text 0 e) in
-    firstFate-whole (segment p) false (k .right) refl (length text) (length (header (length text))) (k .holds) (k .size) all
-    ∙ fateOf-first t p false (sym (d .new)) refl 2 (link-first text p (d .carries)) (stillOpen t p) refl (segment p) refl refl
+    let all : length (segmentIn p) - length (header (length text)) ≡ length text = omega (arith, length-first text p (d .carries), part-end text 0 e) in
+    firstFate-whole (segmentIn p) false (k .right) refl (length text) (length (header (length text))) (k .holds) (k .size) all
+    ∙ fateOf-first t p false (sym (d .new)) refl 2 (link-first text p (d .carries)) (stillOpen t p) refl (segmentIn p) refl refl
 fate-end text (suc j) t p d e =
     let (size, place, none) = d .held (omega arith) in
     let link-is = link-last text j p (d .carries) e in
-    let whole : Whole (length text) ≡ lastFate t (segment p) =
+    let whole : Whole (length text) ≡ lastFate t (segmentIn p) =
     rw (carried-later text j p (d .carries), size, place, eq-eqb _ _ (part-end text (suc j) e)) in
     whole
-    ∙ fateOf-last t p false (sym (d .new)) refl 1 link-is true (open-due text j 1 t p d link-is) (segment p) refl (omega arith) (omega arith) refl
+    ∙ fateOf-last t p false (sym (d .new)) refl 1 link-is true (open-due text j 1 t p d link-is) (segmentIn p) refl (omega arith) (omega arith) refl
 
 -- one before it: the message is begun, or held on
 fate-begun : (text : List ℕ) (t : Slot) (p : List ℕ) → Due text 0 t p → 1 < packets (length text) → Begun ≡ fateOf t p
 unfolding partFrom
 fate-begun text t p d more =
     let k = told-carried text p (d .carries) in
-    let full : length (segment p) ≡ 16 =
+    let full : length (segmentIn p) ≡ 16 =
     omega (arith, length-first text p (d .carries), part-next text 0 more, length-header (length text)) in
-    let left : length (segment p) - length (header (length text)) < length text = omega (arith, partFrom-lt (length text) 0 more) in
-    firstFate-begun (segment p) false (k .right) refl (length text) (length (header (length text))) (k .holds) (k .size) (omega arith) full left
-    ∙ fateOf-first t p false (sym (d .new)) refl 2 (link-first text p (d .carries)) (stillOpen t p) refl (segment p) refl refl
+    let left : length (segmentIn p) - length (header (length text)) < length text = omega (arith, partFrom-lt (length text) 0 more) in
+    firstFate-begun (segmentIn p) false (k .right) refl (length text) (length (header (length text))) (k .holds) (k .size) (omega arith) full left
+    ∙ fateOf-first t p false (sym (d .new)) refl 2 (link-first text p (d .carries)) (stillOpen t p) refl (segmentIn p) refl refl
 
 between-next : (n j : ℕ) → partFrom n (suc j) + 16 ≡ partFrom n (suc (suc j))
 unfolding partFrom
@@ -219,10 +219,10 @@ fate-held text j t p d more =
     let link-is = link-between text j p (d .carries) more in
     let full : length (part text (suc j)) ≡ 16 = omega (arith, part-next text (suc j) more, between-next (length text) j) in
     let left : partFrom (length text) (suc j) + 16 < length text = omega (arith, partFrom-lt (length text) (suc j) more, between-next (length text) j) in
-    let held : Held ≡ betweenFate t (segment p) =
+    let held : Held ≡ betweenFate t (segmentIn p) =
     rw (carried-later text j p (d .carries), size, place, full, lt-ltb _ _ left) in
     held
-    ∙ fateOf-between t p false (sym (d .new)) refl 0 link-is true (open-due text j 0 t p d link-is) (segment p) refl refl refl
+    ∙ fateOf-between t p false (sym (d .new)) refl 0 link-is true (open-due text j 0 t p d link-is) (segmentIn p) refl refl refl
 
 -- ---- packets heard
 
@@ -291,4 +291,4 @@ pub heard-orphan : (text : List ℕ) (j : ℕ) (t : Slot) (area p : List ℕ) (c
 unfolding slotAfter closedSlot storeAfterFate handedFrom
 heard-orphan text j t area p c rest d new shut =
     heard-once Orphan t area p c rest
-    (fateOf-orphan t p false (sym new) refl (link p) refl false (sym shut) (segment p) refl (link-later text j p d) refl) refl refl
+    (fateOf-orphan t p false (sym new) refl (link p) refl false (sym shut) (segmentIn p) refl (link-later text j p d) refl) refl refl

@@ -34,7 +34,7 @@ use Rattle.notices.specs.Stores.{systemPlace, placeOf, storeAfterFate, storeAft
 use Rattle.notices.specs.Slots.{freshSlot, slotAt, slotInRange}
 use Rattle.receiver.specs.Record.{fresh, inRange}
 use Rattle.receiver.specs.Reading.{Noticed, passed}
-use Rattle.parsing.specs.Packets.{address, link, segment, circuitIn, information, malformed}
+use Rattle.parsing.specs.Packets.{address, link, segmentIn, circuitIn, information, malformed}
 use Rattle.parsing.specs.Headers.{headerLength, messageLength, wrongHeader, messagePart}
 use Rattle.notices.specs.Fates.{isCopy, lossOf, stillOpen, firstFate, betweenFate, lastFate, fateOf, slotAfter}
 use Rattle.notices.specs.Heard.{heardAt, systemHeard, heard}
@@ -171,24 +171,24 @@ module _ (t : Slot) (p : List ℕ) where
     unfolding placeOf messagePart region
     fits-first e = rw (eq-eqb (link p) 2 e, length-drop) (omega (arith, right-segment p right))
 
-    fits-later : (link p ≡ 2 → ⊥) → t .place + length (segment p) ≤ t .length → placeOf t p + length (messagePart p) ≤ region
+    fits-later : (link p ≡ 2 → ⊥) → t .place + length (segmentIn p) ≤ t .length → placeOf t p + length (messagePart p) ≤ region
     unfolding placeOf messagePart region longest
     fits-later e h = rw (ne-eqb (link p) 2 e) (omega (arith, slotInRange-facts t range .short))
 
-    inside-first : link p ≡ 2 → Inside t p (firstFate (segment p))
+    inside-first : link p ≡ 2 → Inside t p (firstFate (segmentIn p))
     unfolding firstFate region
     inside-first e =
-        let s : List ℕ = segment p in
+        let s : List ℕ = segmentIn p in
         let body : ℕ = length s - headerLength s in
         cond-either (Inside t p) (wrongHeader s) _ _ (λ _. inside-wrong)
         (λ _. cond-either (Inside t p) (eqb body (messageLength s)) _ _
         (λ all. inside-whole (fits-first e) (messageLength s) (omega (arith, eqb-true body (messageLength s) all, right-segment p right)))
         (λ _. cond-either (Inside t p) (eqb (length s) 16 && ltb body (messageLength s)) _ _ (λ _. inside-begun (fits-first e)) (λ _. inside-wrong)))
 
-    inside-between : (link p ≡ 2 → ⊥) → Inside t p (betweenFate t (segment p))
+    inside-between : (link p ≡ 2 → ⊥) → Inside t p (betweenFate t (segmentIn p))
     unfolding betweenFate
     inside-between e =
-        let s : List ℕ = segment p in
+        let s : List ℕ = segmentIn p in
         cond-either (Inside t p) (eqb (length s) 16 && ltb (t .place + 16) (t .length)) _ _
         (λ both.
         let whole = eqb-true (length s) 16 (and-left (eqb (length s) 16) (ltb (t .place + 16) (t .length)) both) in
@@ -196,12 +196,12 @@ module _ (t : Slot) (p : List ℕ) where
         inside-held (fits-later e (omega arith)))
         (λ _. inside-wrong)
 
-    inside-last : (link p ≡ 2 → ⊥) → Inside t p (lastFate t (segment p))
+    inside-last : (link p ≡ 2 → ⊥) → Inside t p (lastFate t (segmentIn p))
     unfolding lastFate region longest
     inside-last e =
-        cond-either (Inside t p) (eqb (t .place + length (segment p)) (t .length)) _ _
+        cond-either (Inside t p) (eqb (t .place + length (segmentIn p)) (t .length)) _ _
         (λ all.
-        let exact = eqb-true (t .place + length (segment p)) (t .length) all in
+        let exact = eqb-true (t .place + length (segmentIn p)) (t .length) all in
         inside-whole (fits-later e (omega arith)) (t .length) (omega (arith, slotInRange-facts t range .short)))
         (λ _. inside-wrong)
 

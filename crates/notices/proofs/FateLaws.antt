@@ -13,7 +13,7 @@ use Rattle.notices.specs.declared.Slot.{Slot}
 use Rattle.notices.specs.declared.Fate.{Fate}
 use Rattle.notices.specs.declared.Fate.the-variants.{Copy, Begun, Held, Whole, Orphan, Wrong}
 use Rattle.notices.specs.Slots.{open-message, slotInRange}
-use Rattle.parsing.specs.Packets.{link, index, segment}
+use Rattle.parsing.specs.Packets.{link, index, segmentIn}
 use Rattle.parsing.specs.Headers.{headerLength, messageLength, wrongHeader, messagePart}
 use Rattle.notices.specs.Fates.{isCopy, lossOf, stillOpen, firstFate, betweenFate, lastFate, fateOf, slotAfter}
 use Rattle.parsing.proofs.PacketParts.{index-le}
@@ -105,7 +105,7 @@ module _ (t : Slot) (p : List ℕ) (b : Bool) (eb : b ≡ isCopy t p) where
   unfolding fateOf
   fateOf-copy e = rw (← eb, e)
 
-  module _ (e : b ≡ false) (l : ℕ) (el : l ≡ link p) (o : Bool) (eo : o ≡ stillOpen t p) (s : List ℕ) (es : s ≡ segment p) where
+  module _ (e : b ≡ false) (l : ℕ) (el : l ≡ link p) (o : Bool) (eo : o ≡ stillOpen t p) (s : List ℕ) (es : s ≡ segmentIn p) where
     pub fateOf-first : l ≡ 2 → firstFate s ≡ fateOf t p
     unfolding fateOf
     fateOf-first k = rw (← eb, e, ← el, eq-eqb l 2 k, es)
@@ -127,7 +127,7 @@ module _ (t : Slot) (p : List ℕ) (b : Bool) (eb : b ≡ isCopy t p) where
 pub slotAfter-is : (f g : Fate) (t : Slot) (p : List ℕ) (r : Slot) → f ≡ g → r ≡ slotAfter g t p → r ≡ slotAfter f t p
 slotAfter-is f g t p r e h = rw e h
 
-pub slotAfter-begun : (t : Slot) (p s v : List ℕ) (i m : ℕ) → i ≡ index p → s ≡ segment p → m ≡ messageLength s → v ≡ messagePart p
+pub slotAfter-begun : (t : Slot) (p s v : List ℕ) (i m : ℕ) → i ≡ index p → s ≡ segmentIn p → m ≡ messageLength s → v ≡ messagePart p
     → record { seen = true; last = i; length = m; place = length v } ≡ slotAfter Begun t p
 unfolding slotAfter
 slotAfter-begun t p s v i m ei es em ev = rw (ei, em, es, ev)

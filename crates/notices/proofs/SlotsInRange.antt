@@ -15,7 +15,7 @@ use Rattle.notices.specs.declared.Slot.{Slot}
 use Rattle.notices.specs.declared.Fate.{Fate}
 use Rattle.notices.specs.declared.Fate.the-variants.{Begun, Held}
 use Rattle.notices.specs.Slots.{freshSlot, slotInRange, slotsInRange}
-use Rattle.parsing.specs.Packets.{index, link, segment}
+use Rattle.parsing.specs.Packets.{index, link, segmentIn}
 use Rattle.parsing.specs.Headers.{headerLength, messageLength, wrongHeader, messagePart}
 use Rattle.packet.proofs.Choices.{cond-either}
 use Rattle.parsing.proofs.PacketParts.{index-le}
@@ -75,13 +75,13 @@ module _ (t : Slot) (p : List ℕ) (b : Bytes p) (r : slotInRange t ≡ true) wh
   good-closed : slotInRange (closedSlot p) ≡ true
   good-closed = closedSlot-inRange p
 
-  good-Begun : link p ≡ 2 → messageLength (segment p) ≤ longest
-      → length (segment p) - headerLength (segment p) < messageLength (segment p) → Good Begun
+  good-Begun : link p ≡ 2 → messageLength (segmentIn p) ≤ longest
+      → length (segmentIn p) - headerLength (segmentIn p) < messageLength (segmentIn p) → Good Begun
   unfolding Good slotAfter messagePart
   good-Begun first most more =
-      let part : length (drop (headerLength (segment p)) (segment p)) ≤ messageLength (segment p) = rw length-drop (omega arith) in
+      let part : length (drop (headerLength (segmentIn p)) (segmentIn p)) ≤ messageLength (segmentIn p) = rw length-drop (omega arith) in
       rw (eq-eqb (link p) 2 first)
-      (inRange-slot (record { seen = true; last = index p; length = messageLength (segment p); place = length (drop (headerLength (segment p)) (segment p)) })
+      (inRange-slot (record { seen = true; last = index p; length = messageLength (segmentIn p); place = length (drop (headerLength (segmentIn p)) (segmentIn p)) })
       (index-le p) most part)
 
   good-Held : t .place + 16 < t .length → Good Held
@@ -89,10 +89,10 @@ module _ (t : Slot) (p : List ℕ) (b : Bytes p) (r : slotInRange t ≡ true) wh
   good-Held more =
       inRange-slot (record { seen = true; last = index p; length = t .length; place = t .place + 16 }) (index-le p) (slotInRange-facts t r .short) (omega arith)
 
-  good-first : link p ≡ 2 → Good (firstFate (segment p))
+  good-first : link p ≡ 2 → Good (firstFate (segmentIn p))
   unfolding Good slotAfter firstFate
   good-first first =
-      let s : List ℕ = segment p in
+      let s : List ℕ = segmentIn p in
       let body : ℕ = length s - headerLength s in
       cond-either Good (wrongHeader s) _ _ (λ _. good-closed)
       (λ right. cond-either Good (eqb body (messageLength s)) _ _ (λ _. search good-closed)
@@ -101,17 +101,17 @@ module _ (t : Slot) (p : List ℕ) (b : Bytes p) (r : slotInRange t ≡ true) wh
       (ltb-true body (messageLength s) (and-right (eqb (length s) 16) (ltb body (messageLength s)) e)))
       (λ _. good-closed)))
 
-  good-between : Good (betweenFate t (segment p))
+  good-between : Good (betweenFate t (segmentIn p))
   unfolding Good slotAfter betweenFate
   good-between =
-      let s : List ℕ = segment p in
+      let s : List ℕ = segmentIn p in
       cond-either Good (eqb (length s) 16 && ltb (t .place + 16) (t .length)) _ _
       (λ e. good-Held (ltb-true (t .place + 16) (t .length) (and-right (eqb (length s) 16) (ltb (t .place + 16) (t .length)) e)))
       (λ _. good-closed)
 
-  good-last : Good (lastFate t (segment p))
+  good-last : Good (lastFate t (segmentIn p))
   unfolding Good slotAfter lastFate
-  good-last = cond-either Good (eqb (t .place + length (segment p)) (t .length)) _ _ (λ _. search good-closed) (λ _. good-closed)
+  good-last = cond-either Good (eqb (t .place + length (segmentIn p)) (t .length)) _ _ (λ _. search good-closed) (λ _. good-closed)
 
   good-fate : Good (fateOf t p)
   unfolding Good slotAfter fateOf

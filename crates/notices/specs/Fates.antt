@@ -4,7 +4,7 @@ use mathlib.Core.Bool.{Bool, true, cond, not, _&&_}
 use mathlib.Core.List.{List}
 use lib.ListN.{length}
 use lib.Dec.{ltb, eqb}
-use Rattle.parsing.specs.Packets.{link, index, segment}
+use Rattle.parsing.specs.Packets.{link, index, segmentIn}
 use Rattle.parsing.specs.Headers.{headerLength, messageLength, wrongHeader, messagePart}
 use Rattle.notices.specs.declared.Slot.{Slot}
 use Rattle.notices.specs.declared.Fate.{Fate}
@@ -41,8 +41,8 @@ lastFate t s = cond (eqb (t .place + length s) (t .length)) (Whole (t .length)) 
 unfoldable pub fateOf : Slot → List ℕ → Fate
 fateOf t p =
     cond (isCopy t p) Copy
-    (cond (eqb (link p) 2) (firstFate (segment p))
-    (cond (not (stillOpen t p)) Orphan (cond (eqb (link p) 0) (betweenFate t (segment p)) (lastFate t (segment p)))))
+    (cond (eqb (link p) 2) (firstFate (segmentIn p))
+    (cond (not (stillOpen t p)) Orphan (cond (eqb (link p) 0) (betweenFate t (segmentIn p)) (lastFate t (segmentIn p)))))
 
 -- ---- the slot then
 
@@ -53,7 +53,7 @@ closedSlot p = record { seen = true; last = index p; length = 0; place = 0 }
 -- "After every case but Copy the circuit's last is this index"; "Wrong closes the message", and so does Whole
 unfoldable pub slotAfter : Fate → Slot → List ℕ → Slot
 slotAfter Copy t p = t
-slotAfter Begun t p = record { seen = true; last = index p; length = messageLength (segment p); place = length (messagePart p) }
+slotAfter Begun t p = record { seen = true; last = index p; length = messageLength (segmentIn p); place = length (messagePart p) }
 slotAfter Held t p = record { seen = true; last = index p; length = t .length; place = t .place + 16 }
 slotAfter (Whole n) t p = closedSlot p
 slotAfter Orphan t p = closedSlot p

@@ -10,7 +10,7 @@ use lib.ListN.{length, take, drop, getD, length-drop, drop-of-length-le, List·g
 use lib.Seq.{getD-drop, drop-length}
 use Rattle.bits.proofs.Tests.{or-left, or-right}
 use Rattle.packet.specs.Messages.{longest}
-use Rattle.parsing.specs.Packets.{link, lead, segment}
+use Rattle.parsing.specs.Packets.{link, lead, segmentIn}
 use Rattle.parsing.specs.Headers.{twoBytes, headerLength, messageLength, wrongHeader, messagePart}
 use Rattle.parsing.proofs.PacketParts.{take-rest, segment-fits}
 
@@ -91,7 +91,7 @@ module _ (s : List ℕ) where
 
 -- ---- the message bytes in a packet, with s for its segment and k for its link
 
-module _ (p s : List ℕ) (k : ℕ) (segment-is : s ≡ segment p) (link-is : k ≡ link p) where
+module _ (p s : List ℕ) (k : ℕ) (segment-is : s ≡ segmentIn p) (link-is : k ≡ link p) where
   pub messagePart-later : (k ≡ 2 → ⊥) → s ≡ messagePart p
   unfolding messagePart
   messagePart-later e = rw (← link-is, ne-eqb k 2 e) segment-is
@@ -113,13 +113,13 @@ module _ (p s : List ℕ) (k : ℕ) (segment-is : s ≡ segment p) (link-is : k 
 pub messagePart-fits : (v p : List ℕ) → v ≡ messagePart p → lead p < length p → length p ≤ 19 → length v ≤ 17
 unfolding messagePart
 messagePart-fits v p e some short =
-    rw e (go (eqb (link p) 2) (headerLength (segment p)) (segment-fits (segment p) p refl some short .1))
+    rw e (go (eqb (link p) 2) (headerLength (segmentIn p)) (segment-fits (segmentIn p) p refl some short .1))
   where
-    go : (b : Bool) (h : ℕ) → length (segment p) ≤ 17 → length (cond b (drop h (segment p)) (segment p)) ≤ 17
+    go : (b : Bool) (h : ℕ) → length (segmentIn p) ≤ 17 → length (cond b (drop h (segmentIn p)) (segmentIn p)) ≤ 17
     go true h short = rw length-drop (omega arith)
     go false h short = short
 
 -- the second byte of a segment
-pub segment-second : (s p : List ℕ) → s ≡ segment p → ((i : ℕ) → getD p i 0 < 256) → getD s 1 0 < 256
-unfolding segment
+pub segment-second : (s p : List ℕ) → s ≡ segmentIn p → ((i : ℕ) → getD p i 0 < 256) → getD s 1 0 < 256
+unfolding segmentIn
 segment-second s p e known = rw (e, getD-drop (lead p) p 1 0) (known (lead p + 1))

@@ -9,7 +9,7 @@ use lib.Dec.{leb, ltb, eqb}
 use lib.ListN.{length, take, drop, getD, length-drop}
 use lib.Seq.{take-all, getD-drop, drop-drop}
 use Rattle.bits.proofs.Tests.{or-left, or-right}
-use Rattle.parsing.specs.Packets.{address, control, link, extended, index, lead, segment, circuitIn, descriptor, code, information, enable, malformedSystem, malformed}
+use Rattle.parsing.specs.Packets.{address, controlIn, link, extended, index, lead, segmentIn, circuitIn, descriptor, code, information, enable, malformedSystem, malformed}
 
 -- ---- bounds of a packet's parts
 
@@ -31,18 +31,18 @@ index-le p = omega arith
 pub take-rest : (l : List ℕ) (n : ℕ) → take (length l - n) (drop n l) ≡ drop n l
 take-rest l n = take-all (length l - n) (drop n l) (rw length-drop (omega arith))
 
-pub length-segment : (p : List ℕ) → length (segment p) ≡ length p - lead p
-unfolding segment
+pub length-segment : (p : List ℕ) → length (segmentIn p) ≡ length p - lead p
+unfolding segmentIn
 length-segment p = length-drop (lead p) p
 
 descriptor-getD : (p : List ℕ) → descriptor p ≡ getD p (lead p) 0
-unfolding descriptor segment
+unfolding descriptor segmentIn
 descriptor-getD p =
     let e : lead p + 0 ≡ lead p = omega arith in
     rw e at (getD-drop (lead p) p 0 0)
 
 information-drop : (p : List ℕ) → information p ≡ drop (lead p + 1) p
-unfolding information segment
+unfolding information segmentIn
 information-drop p = drop-drop 1 (lead p) p
 
 length-information : (p : List ℕ) → length (information p) ≡ length p - lead p - 1
@@ -52,8 +52,8 @@ length-information p =
 
 -- with n for where the segment begins
 module _ (p : List ℕ) (n : ℕ) (is : n ≡ lead p) where
-  pub segment-part : take (length p - n) (drop n p) ≡ segment p
-  unfolding segment
+  pub segment-part : take (length p - n) (drop n p) ≡ segmentIn p
+  unfolding segmentIn
   segment-part = take-rest p n ∙ rw is
 
   pub code-part : getD p n 0 / 16 ≡ code p
@@ -87,12 +87,12 @@ module _ (p : List ℕ) (k : ℕ) (is : k ≡ link p) where
   malformedSystem-link e = rw (← is, ne-eqb k 3 e)
 
   pub malformedSystem-bit : k ≡ 3 → getD p 1 0 / 16 % 2 ≡ 1 → true ≡ malformedSystem p
-  unfolding malformedSystem control
+  unfolding malformedSystem controlIn
   malformedSystem-bit e f = rw (← is, eq-eqb k 3 e, eq-eqb (getD p 1 0 / 16 % 2) 1 f)
 
   pub malformedSystem-descriptor : (n : ℕ) → n ≡ lead p → k ≡ 3 → (getD p 1 0 / 16 % 2 ≡ 1 → ⊥)
       → (ltb 8 (getD p n 0 / 16) || not (eqb (getD p n 0 % 16) (length p - n - 1))) ≡ malformedSystem p
-  unfolding malformedSystem control
+  unfolding malformedSystem controlIn
   malformedSystem-descriptor n at e f =
       rw (
         ← is,
@@ -133,31 +133,31 @@ module _ (p : List ℕ) (n : ℕ) (is : n ≡ lead p) where
 information-le : (p : List ℕ) → malformedSystem p ≡ false → length (information p) ≤ 15
 unfolding malformedSystem
 information-le p e =
-    let earlier = not (eqb (link p) 3) || eqb (control p / 16 % 2) 1 || ltb 8 (code p) in
+    let earlier = not (eqb (link p) 3) || eqb (controlIn p / 16 % 2) 1 || ltb 8 (code p) in
     let same = eqb (descriptor p % 16) (length (information p)) in
     let last = not-false same (or-right earlier (not same) e) in
     omega (arith, eqb-true (descriptor p % 16) (length (information p)) last)
 
 module _ (p : List ℕ) (right : malformed p ≡ false) where
-  right-rest : cond (eqb (address p) 0xff) (malformedSystem p) (ltb 16 (length (segment p)) || eqb (link p) 3) ≡ false
+  right-rest : cond (eqb (address p) 0xff) (malformedSystem p) (ltb 16 (length (segmentIn p)) || eqb (link p) 3) ≡ false
   unfolding malformed
   right-rest =
-      or-right (leb (length p) (lead p)) (cond (eqb (address p) 0xff) (malformedSystem p) (ltb 16 (length (segment p)) || eqb (link p) 3)) right
+      or-right (leb (length p) (lead p)) (cond (eqb (address p) 0xff) (malformedSystem p) (ltb 16 (length (segmentIn p)) || eqb (link p) 3)) right
 
   right-information : address p ≡ 0xff → length (information p) ≤ 15
   right-information e = information-le p (rw (eq-eqb (address p) 0xff e) at right-rest)
 
-  right-circuit : (address p ≡ 0xff → ⊥) → (ltb 16 (length (segment p)) || eqb (link p) 3) ≡ false
+  right-circuit : (address p ≡ 0xff → ⊥) → (ltb 16 (length (segmentIn p)) || eqb (link p) 3) ≡ false
   right-circuit e = rw (ne-eqb (address p) 0xff e) at right-rest
 
-  pub right-segment : length (segment p) ≤ 16
+  pub right-segment : length (segmentIn p) ≤ 16
   right-segment = go (eqb (address p) 0xff) refl
     where
-      go : (t : Bool) → eqb (address p) 0xff ≡ t → length (segment p) ≤ 16
+      go : (t : Bool) → eqb (address p) 0xff ≡ t → length (segmentIn p) ≤ 16
       go true e = omega (arith, right-information (eqb-true (address p) 0xff e), length-information p, length-segment p)
       go false e =
-          ltb-false 16 (length (segment p))
-          (or-left (ltb 16 (length (segment p))) (eqb (link p) 3) (right-circuit (eqb-false (address p) 0xff e)))
+          ltb-false 16 (length (segmentIn p))
+          (or-left (ltb 16 (length (segmentIn p))) (eqb (link p) 3) (right-circuit (eqb-false (address p) 0xff e)))
 
 -- a packet that is not malformed has a segment, and information is at most 16 bytes
 pub malformed-lead : (p : List ℕ) (b : Bool) → b ≡ malformed p → b ≡ false → lead p < length p
@@ -171,7 +171,7 @@ information-fits v p e short =
     omega arith
 
 -- the segment of a packet of at most 19 bytes
-pub segment-fits : (s p : List ℕ) → s ≡ segment p → lead p < length p → length p ≤ 19 → (1 ≤ length s) × (length s ≤ 17)
+pub segment-fits : (s p : List ℕ) → s ≡ segmentIn p → lead p < length p → length p ≤ 19 → (1 ≤ length s) × (length s ≤ 17)
 unfolding lead
 segment-fits s p e some short =
     let n : length s ≡ length p - lead p = rw e (length-segment p) in

@@ -4,7 +4,7 @@ use mathlib.Core.Bool.{Bool, cond, _&&_, _||_}
 use mathlib.Core.List.{List}
 use lib.ListN.{length, drop, getD}
 use lib.Dec.{ltb, eqb}
-use Rattle.parsing.specs.Packets.{link, segment}
+use Rattle.parsing.specs.Packets.{link, segmentIn}
 
 -- A4: the header has two bytes
 unfoldable pub twoBytes : List ℕ → Bool
@@ -23,4 +23,4 @@ wrongHeader s = twoBytes s && (ltb (length s) 2 || ltb (messageLength s) 16 || e
 
 -- the message bytes in a packet, "headerless"
 unfoldable pub messagePart : List ℕ → List ℕ
-messagePart p = cond (eqb (link p) 2) (drop (headerLength (segment p)) (segment p)) (segment p)
+messagePart p = cond (eqb (link p) 2) (drop (headerLength (segmentIn p)) (segmentIn p)) (segmentIn p)

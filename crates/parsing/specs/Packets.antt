@@ -10,25 +10,25 @@ use Rattle.packet.specs.declared.Circuit.{Circuit}
 unfoldable pub address : List ℕ → ℕ
 address p = getD p 0 0
 
-unfoldable pub control : List ℕ → ℕ
-control p = getD p 1 0
+unfoldable pub controlIn : List ℕ → ℕ
+controlIn p = getD p 1 0
 
 -- "A7 A6 are [the link]; A5 extension present; A4 A3 A2 continuity index"
 unfoldable pub link : List ℕ → ℕ
-link p = control p / 64
+link p = controlIn p / 64
 
 unfoldable pub extended : List ℕ → ℕ
-extended p = control p / 32 % 2
+extended p = controlIn p / 32 % 2
 
 unfoldable pub index : List ℕ → ℕ
-index p = control p / 4 % 8
+index p = controlIn p / 4 % 8
 
 -- where the segment begins
 unfoldable pub lead : List ℕ → ℕ
 lead p = 2 + extended p
 
-unfoldable pub segment : List ℕ → List ℕ
-segment p = drop (lead p) p
+unfoldable pub segmentIn : List ℕ → List ℕ
+segmentIn p = drop (lead p) p
 
 -- the circuit that a packet names; without an extension the extension byte counts as 0
 unfoldable pub circuitIn : List ℕ → Circuit
@@ -38,24 +38,24 @@ circuitIn p = record { address = address p; extended = extended p; extension = c
 
 -- "a descriptor (A7 to A4 block code 0 to 8, A3 to A0 information length)"
 unfoldable pub descriptor : List ℕ → ℕ
-descriptor p = getD (segment p) 0 0
+descriptor p = getD (segmentIn p) 0 0
 
 unfoldable pub code : List ℕ → ℕ
 code p = descriptor p / 16
 
 unfoldable pub information : List ℕ → List ℕ
-information p = drop 1 (segment p)
+information p = drop 1 (segmentIn p)
 
 unfoldable pub enable : List ℕ → ℕ
-enable p = control p % 16
+enable p = controlIn p % 16
 
 -- "Malformed: no segment (at FF hex, no descriptor); a segment above 16; FF hex without links 11, or 11 without FF hex; a system packet with A4 set,
 -- block code above 8, or a length that differs from its bytes (an extension there is skipped)"
 unfoldable pub malformedSystem : List ℕ → Bool
 malformedSystem p =
-    not (eqb (link p) 3) || eqb (control p / 16 % 2) 1 || ltb 8 (code p) || not (eqb (descriptor p % 16) (length (information p)))
+    not (eqb (link p) 3) || eqb (controlIn p / 16 % 2) 1 || ltb 8 (code p) || not (eqb (descriptor p % 16) (length (information p)))
 
 unfoldable pub malformed : List ℕ → Bool
 malformed p =
     leb (length p) (lead p) ||
-    cond (eqb (address p) 0xff) (malformedSystem p) (ltb 16 (length (segment p)) || eqb (link p) 3)
+    cond (eqb (address p) 0xff) (malformedSystem p) (ltb 16 (length (segmentIn p)) || eqb (link p) 3)

@@ -4,7 +4,7 @@ ghost use Prim.Native.Nat.{_≤_, _<_, _/_, _%_};
 ghost use mathlib.Core.Bool.{not, _||_};
 ghost use lib.ListN.{length};
 ghost use lib.Dec.{ltb, eqb};
-ghost use Rattle.parsing.specs.Packets.{address, link, extended, index, lead, segment, circuitIn, code, information, enable, malformedSystem, malformed};
+ghost use Rattle.parsing.specs.Packets.{address, link, extended, index, lead, segmentIn, circuitIn, code, information, enable, malformedSystem, malformed};
 use packet::Circuit;
 
 // The address byte.
@@ -58,7 +58,7 @@ pub fn enable_of(p: &[u8]) -> u8
 // The segment.
 pub fn segment_of(p: &[u8]) -> &[u8]
     requires { ⌜ (2 ≤ length (now p)) × (lead (now p) ≤ length (now p)) ⌝ }
-    ensures { λ r. ⌜ now r ≡ segment (now (p .entry)) ⌝ }
+    ensures { λ r. ⌜ now r ≡ segmentIn (now (p .entry)) ⌝ }
 {
     let lead = lead_of(p);
     &p[lead..]

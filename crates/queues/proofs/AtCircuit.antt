@@ -18,7 +18,7 @@ use Rattle.queues.specs.Queues.{Copy, Queue, Queues, freshQueue, freshQu
 use Rattle.queues.specs.Effects.{Effect, noEffect, sendsMessage, takesFrames, takenFor, TakenBlock, queuesAfterEffect, sentBy, takenBy, queuesAfter, messagesSent, blocksTaken}
 use Rattle.queues.specs.Sent.{messagesAt, copiesSent, placedAt, framesOf}
 use Rattle.queues.proofs.Queues.{cons-behindFirst, taking-cases}
-use Rattle.queues.proofs.StandsCalls.{Right, AllRight}
+use Rattle.queues.proofs.StandsCalls.{RightEffect, AllRight}
 
 -- ---- queues by circuit
 
@@ -265,8 +265,8 @@ module _ (k : Circuit) where
       )
       counts false f later h = h
 
-  at-effect : (x : Effect) (q : Queues) → Apart q → Right q x → AtCircuit q (sentBy q x) (framesOf (takenBy q x)) (queuesAfterEffect q x)
-  unfolding Right sentBy takenBy framesOf queuesAfterEffect takenFor takeFrames
+  at-effect : (x : Effect) (q : Queues) → Apart q → RightEffect q x → AtCircuit q (sentBy q x) (framesOf (takenBy q x)) (queuesAfterEffect q x)
+  unfolding RightEffect sentBy takenBy framesOf queuesAfterEffect takenFor takeFrames
   at-effect noEffect q apart right = at-none q
   at-effect (sendsMessage d priority repetition message) q apart right = at-offer q d priority repetition message apart (right .0) (right .1) (right .2)
   at-effect (takesFrames t) q apart right =

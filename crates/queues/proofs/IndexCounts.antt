@@ -11,7 +11,7 @@ use Rattle.packet.specs.declared.Circuit.{Circuit}
 use Rattle.packet.specs.Circuits.{circuitsOf, listRefusal}
 use Rattle.packet.specs.Messages.{packets}
 use Rattle.packet.specs.Packets.{control, packetOf}
-use Rattle.parsing.specs.Packets.{control as controlIn, index}
+use Rattle.parsing.specs.Packets.{controlIn, index}
 use Rattle.queues.specs.Queues.{Copy, freshQueue, freshQueues, copyOf, copiesFrom, Message, messageCopies}
 use Rattle.queues.specs.Effects.{messagesSent}
 use Rattle.queues.specs.Calls.{Call, freshEnd, effects}

@@ -149,17 +149,17 @@ unfolding effectOf
 effectOf-cases P call e taken refused = cond-either P (accepted e call) (effect call) noEffect taken (λ _. refused)
 
 -- a message is sent at a listed number, and has a priority and a length that the offer's refusals let pass
-unfoldable pub Right : Queues → Effect → Type 0
-Right q noEffect = Unit {0}
-Right q (sendsMessage c priority repetition message) = (c < length (q .queues)) × (priority ≤ 3) × (length message ≤ longest)
-Right q (takesFrames t) = Unit {0}
+unfoldable pub RightEffect : Queues → Effect → Type 0
+RightEffect q noEffect = Unit {0}
+RightEffect q (sendsMessage c priority repetition message) = (c < length (q .queues)) × (priority ≤ 3) × (length message ≤ longest)
+RightEffect q (takesFrames t) = Unit {0}
 
 unfoldable pub AllRight : Queues → List Effect → Type 0
 AllRight q [] = Unit {0}
-AllRight q (x ∷ xs) = Right q x × AllRight (queuesAfterEffect q x) xs
+AllRight q (x ∷ xs) = RightEffect q x × AllRight (queuesAfterEffect q x) xs
 
-right-accepted : (call : Call) (e : End) (q : Queues) → Stands (e .sender) (e .store) q → accepted e call ≡ true → Right q (effect call)
-unfolding accepted effect Right
+right-accepted : (call : Call) (e : End) (q : Queues) → Stands (e .sender) (e .store) q → accepted e call ≡ true → RightEffect q (effect call)
+unfolding accepted effect RightEffect
 right-accepted (offer c priority repetition message) e q h a =
     let f : OfferFacts (e .sender) (e .store) c priority repetition message =
     offerRefusal-zero (e .sender) (e .store) c priority repetition message
@@ -168,9 +168,9 @@ right-accepted (offer c priority repetition message) e q h a =
 right-accepted (block n u buffer y) e q h a = tt
 
 pub right-calls : (calls : List Call) (e : End) (q : Queues) → Stands (e .sender) (e .store) q → AllRight q (effects e calls)
-unfolding effects Right AllRight
+unfolding effects RightEffect AllRight
 right-calls [] e q h = tt
 right-calls (call ∷ calls) e q h = (
-  effectOf-cases (Right q) call e (right-accepted call e q h) tt,
+  effectOf-cases (RightEffect q) call e (right-accepted call e q h) tt,
   right-calls calls (afterCall e call) (queuesAfterEffect q (effectOf e call)) (stands-call call e q h),
 )

@@ -1,6 +1,6 @@
 -- `parsing::packets::extended_of` meets its contract. Assumes nothing.
 use borrow.Author.Needs.{needs}
-use Rattle.parsing.specs.Packets.{extended, control}
+use Rattle.parsing.specs.Packets.{extended, controlIn}
 use Rattle.parsing.proofs.packets.extended_of.Statement.{statement}
 use Rattle.parsing.proofs.packets.extended_of.Tie as tie
 
@@ -8,7 +8,7 @@ shared-slice-read-result : tie.Need-shared-slice-read-result
 shared-slice-read-result c = search needs
 
 returns : tie.Need-returns
-unfolding extended control
+unfolding extended controlIn
 returns c = search needs
 
 pub extended-of-spec : {M : Type 1} → statement M

@@ -1,6 +1,6 @@
 -- `parsing::packets::index_of` meets its contract. Assumes nothing.
 use borrow.Author.Needs.{needs}
-use Rattle.parsing.specs.Packets.{index, control}
+use Rattle.parsing.specs.Packets.{index, controlIn}
 use Rattle.parsing.proofs.packets.index_of.Statement.{statement}
 use Rattle.parsing.proofs.packets.index_of.Tie as tie
 
@@ -8,7 +8,7 @@ shared-slice-read-result : tie.Need-shared-slice-read-result
 shared-slice-read-result c = search needs
 
 returns : tie.Need-returns
-unfolding index control
+unfolding index controlIn
 returns c = search needs
 
 pub index-of-spec : {M : Type 1} → statement M

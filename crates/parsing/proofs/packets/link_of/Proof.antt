@@ -1,6 +1,6 @@
 -- `parsing::packets::link_of` meets its contract. Assumes nothing.
 use borrow.Author.Needs.{needs}
-use Rattle.parsing.specs.Packets.{link, control}
+use Rattle.parsing.specs.Packets.{link, controlIn}
 use Rattle.parsing.proofs.packets.link_of.Statement.{statement}
 use Rattle.parsing.proofs.packets.link_of.Tie as tie
 
@@ -8,7 +8,7 @@ shared-slice-read-result : tie.Need-shared-slice-read-result
 shared-slice-read-result c = search needs
 
 returns : tie.Need-returns
-unfolding link control
+unfolding link controlIn
 returns c = search needs
 
 pub link-of-spec : {M : Type 1} → statement M

@@ -12,12 +12,12 @@ use Rattle.receiver.specs.Reading.{readBy, readScan, readRefusal, bitsRead}
 use Rattle.receiver.specs.Reads.{ReadCall, ReceiverEnd, freshReceiverEnd, afterRead, afterReads}
 use Rattle.receiver_layout.specs.ReceiverBytes.{receiverLength, receiverIn}
 use Rattle.receiver_layout.specs.Answers.{readAnswerBytes, bitsTold}
 use Rattle.aes18.specs.Room.{noRoom}
 use Rattle.aes18.specs.ReceiverCalls.{listRecord, readAnswered, readAnswer}
-use Rattle.aes18.specs.Lent.{Lent, LentRead, readHasRoom, afterLentRead, afterLentReads, readsOf}
-use Rattle.aes18.proofs.NoRoom.{readRefusal-below, answered-255}
+use Rattle.exported.specs.Lent.{Lent, LentRead, readHasRoom, afterLentRead, afterLentReads, readsOf}
+use Rattle.exported.proofs.NoRoom.{readRefusal-below, answered-255}
 use Rattle.aes18.proofs.ReceiverOutcomes.{list-short, read-short}
-use Rattle.aes18.proofs.ReceiverCarried.{Carried, list-carries, read-number, read-told, read-carries, read-store}
+use Rattle.exported.proofs.ReceiverCarried.{Carried, list-carries, read-number, read-told, read-carries, read-store}
 
 -- what an accepted call tells, in bytes
 abbrev pub answerOfRead : ReceiverEnd → ReadCall → List ℕ

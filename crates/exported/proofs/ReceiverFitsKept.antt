@@ -36,7 +36,7 @@ use Rattle.packet.proofs.CircuitLists.{number-lt}
 use Rattle.receiver.proofs.InRange.{inRange-parts, arrays, scanned-in-range}
 use Rattle.layout.specs.Fits.{Four}
 use Rattle.receiver_layout.specs.Fits.{ReceiverSlotFits, FramingFits, ReceiverFits}
-use Rattle.aes18.proofs.Fitting.{Four-set, listing-fits}
+use Rattle.exported.proofs.Fitting.{Four-set, listing-fits}
 
 -- ---- a fresh record
 

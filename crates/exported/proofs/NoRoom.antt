@@ -17,8 +17,8 @@ use Rattle.receiver.specs.declared.Receiver.{Receiver}
 use Rattle.notices.specs.Stores as notices
 use Rattle.receiver.specs.Record as receiver
 use Rattle.receiver.specs.Reading.{readRefusal}
 use Rattle.aes18.specs.Room.{noRoom}
-use Rattle.aes18.specs.Lent.{callRefusal}
+use Rattle.exported.specs.Lent.{callRefusal}
 
 -- one of two numbers below 16
 either : (t : Bool) (k : ℕ) {n : ℕ} → k < 16 → n < 16 → cond t k n < 16

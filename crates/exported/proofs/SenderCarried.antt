@@ -26,12 +26,12 @@ use Rattle.layout.specs.Fits.{Four}
 use Rattle.sender_layout.specs.Fits.{SenderSlotFits, SenderFits}
 use Rattle.layout.proofs.Parts.{four-elements}
 use Rattle.sender_layout.proofs.SenderRoundTrip.{sender-unpacks, sender-fits}
 use Rattle.aes18.specs.Room.{noRoom}
 use Rattle.aes18.specs.SenderCalls.{listRecord, offerAnswered, offerRecord, offerStore, blockAnswered, blockRecord, blockWritten, blockAnswer}
 use Rattle.sender_layout.proofs.AnswersRead.{length-blockAnswerBytes, block-answer-unpacks}
-use Rattle.aes18.proofs.BlockAnswers.{used-fits, placed-fits}
-use Rattle.aes18.proofs.Fitting.{lowBytes-Bytes, circuits-Bytes}
-use Rattle.aes18.proofs.SenderFitsKept.{fits-fresh, fits-offered, fits-made}
+use Rattle.exported.proofs.BlockAnswers.{used-fits, placed-fits}
+use Rattle.exported.proofs.Fitting.{lowBytes-Bytes, circuits-Bytes}
+use Rattle.exported.proofs.SenderFitsKept.{fits-fresh, fits-offered, fits-made}
 
 -- ---- a record that fits is laid out in bytes
 

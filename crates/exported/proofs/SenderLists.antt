@@ -12,12 +12,12 @@ use Rattle.sender.specs.BlockCalls.{framesPlaced, bitsUsed}
 use Rattle.queues.specs.Calls.{Call, offer, block, End, freshEnd, accepted, afterCall, afterCalls}
 use Rattle.sender_layout.specs.SenderBytes.{senderLength, senderIn}
 use Rattle.sender_layout.specs.Answers.{blockAnswerLength, placedTold, usedTold}
 use Rattle.aes18.specs.Room.{noRoom}
 use Rattle.aes18.specs.SenderCalls.{listRecord, blockWritten, blockAnswer}
-use Rattle.aes18.specs.Lent.{Lent, LentCall, callAnswered, callRefusal, callHasRoom, afterLentCall, afterLentCalls, callsOf}
-use Rattle.aes18.proofs.NoRoom.{callRefusal-below, answered-255}
+use Rattle.exported.specs.Lent.{Lent, LentCall, callAnswered, callRefusal, callHasRoom, afterLentCall, afterLentCalls, callsOf}
+use Rattle.exported.proofs.NoRoom.{callRefusal-below, answered-255}
 use Rattle.aes18.proofs.SenderOutcomes.{list-short, offer-short, block-short}
-use Rattle.aes18.proofs.SenderCarried.{Carried, list-carries, offer-carries, block-carries, offer-answers, block-answers, block-told}
+use Rattle.exported.proofs.SenderCarried.{Carried, list-carries, offer-carries, block-carries, offer-answers, block-answers, block-told}
 
 -- they are a sender's state, in as many bytes as were lent first
 pub record CarriedEnd (bytes : List ℕ) (e : Lent) (s : End) : Type 0 where

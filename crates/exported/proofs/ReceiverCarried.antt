@@ -28,10 +28,10 @@ use Rattle.receiver_layout.specs.Fits.{ReceiverSlotFits, FramingFits, ReceiverF
 use Rattle.layout.proofs.Parts.{four-elements}
 use Rattle.receiver_layout.proofs.AnswersRead.{length-readAnswerBytes, read-answer-unpacks}
 use Rattle.receiver_layout.proofs.ReceiverRoundTrip.{receiver-unpacks, receiver-fits, receiver-is}
 use Rattle.aes18.specs.Room.{noRoom}
 use Rattle.aes18.specs.ReceiverCalls.{listRecord, readAnswered, readRecord, readStore, readAnswer}
-use Rattle.aes18.proofs.Fitting.{circuits-Bytes}
-use Rattle.aes18.proofs.ReceiverFitsKept.{fresh-fits, read-fits}
+use Rattle.exported.proofs.Fitting.{circuits-Bytes}
+use Rattle.exported.proofs.ReceiverFitsKept.{fresh-fits, read-fits}
 
 -- ---- the bytes of a record
 

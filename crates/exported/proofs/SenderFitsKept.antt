@@ -26,7 +26,7 @@ use Rattle.sender.specs.Blocks.{Filled, System, systemPackets, enableBits, full
 use Rattle.sender.proofs.Filling.{placing-cases}
 use Rattle.sender.proofs.BlockRefusals.{accepted}
 use Rattle.sender_layout.specs.Fits.{SenderSlotFits, SenderFits}
-use Rattle.aes18.proofs.Fitting.{Four-set, listing-fits}
+use Rattle.exported.proofs.Fitting.{Four-set, listing-fits}
 
 -- ---- listing
 

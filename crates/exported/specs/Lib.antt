@@ -1,0 +1,2 @@
+-- The definitions of `exported`: lists of exported calls on the bytes lent to them.
+pub mod Lent
