@@ -1,4 +1,4 @@
--- The proof of demand 3, and what stands around it.
+-- The proof of demand 3, pass totals over it, and what stands around it.
 pub mod Steps
 pub mod ReadsHear
 pub mod ResultingBits
@@ -15,6 +15,7 @@ pub mod Losses
 pub mod MessageParts
 pub mod Reassembly
 pub mod ClaimHolds
+pub mod PassTotals
 pub mod BodiesOfBlocks
 pub mod DroppedBlocks
 pub mod ReplacedByOnes

@@ -71,7 +71,7 @@ module _ (slots : List Slot) (p : List ℕ) where
 
 module _ (cs : Circuits) (slots : List Slot) (range : slotsInRange (take (cs .count) slots) ≡ true) where
   -- a number that is found is a listed circuit's, and its slot is in range
-  number-slot : cs .count ≤ 4 → (d : Circuit) (n : ℕ) → numberFrom (listed cs) d 0 ≡ some n → (n < 4) × (slotInRange (slotAt slots n) ≡ true)
+  pub number-slot : cs .count ≤ 4 → (d : Circuit) (n : ℕ) → numberFrom (listed cs) d 0 ≡ some n → (n < 4) × (slotInRange (slotAt slots n) ≡ true)
   unfolding slotAt
   number-slot few d n e =
       let inside : n < cs .count = number-lt cs d n e in

@@ -4,3 +4,4 @@ pub mod SlotsInRange
 pub mod FateLaws
 pub mod StoreLaws
 pub mod Hearings
+pub mod NoticesInRange

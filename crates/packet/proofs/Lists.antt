@@ -10,6 +10,11 @@ module _ {A : Type 0} (P : A → Type 0) where
   AllAre-append [] b h k = k
   AllAre-append (x ∷ a) b h k = (h .0, AllAre-append a b (h .1) k)
 
+  pub AllAre-parts : (a b : List A) → AllAre P (a ++ b) → AllAre P a × AllAre P b
+  unfolding AllAre
+  AllAre-parts [] b h = (tt, h)
+  AllAre-parts (x ∷ a) b h = let (front, behind) = AllAre-parts a b (h .1) in ((h .0, front), behind)
+
   pub AllAre-take : (n : ℕ) (l : List A) → AllAre P l → AllAre P (take n l)
   unfolding AllAre
   AllAre-take zero l h = tt

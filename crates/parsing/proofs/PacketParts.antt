@@ -9,7 +9,7 @@ use lib.Dec.{leb, ltb, eqb}
 use lib.ListN.{length, take, drop, getD, length-drop}
 use lib.Seq.{take-all, getD-drop, drop-drop}
 use Rattle.bits.proofs.Tests.{or-left, or-right}
-use Rattle.parsing.specs.Packets.{address, controlIn, link, extended, index, lead, segmentIn, circuitIn, descriptor, code, information, enable, malformedSystem, malformed}
+use Rattle.parsing.specs.Packets.{address, controlIn, link, extended, index, lead, segmentIn, circuitIn, descriptor, code, information, malformedSystem, malformed}
 
 -- ---- bounds of a packet's parts
 
@@ -129,7 +129,14 @@ module _ (p : List ℕ) (n : ℕ) (is : n ≡ lead p) where
     pub malformed-not : length p - n ≤ 16 → (link p ≡ 3 → ⊥) → false ≡ malformed p
     malformed-not short other = rw (malformed-circuit, le-ltb 16 (length p - n) short, ne-eqb (link p) 3 other)
 
--- what a packet that is not malformed has: a segment of 1 to 16 bytes, and at FF hex at most 15 bytes behind the descriptor
+-- what a packet that is not malformed has: a segment of 1 to 16 bytes, and at FF hex a block code of at most 8 and at most 15 bytes behind the descriptor
+code-le : (p : List ℕ) → malformedSystem p ≡ false → code p ≤ 8
+unfolding malformedSystem
+code-le p e =
+    let earlier = not (eqb (link p) 3) || eqb (controlIn p / 16 % 2) 1 in
+    let other = not (eqb (descriptor p % 16) (length (information p))) in
+    ltb-false 8 (code p) (or-right earlier (ltb 8 (code p)) (or-left (earlier || ltb 8 (code p)) other e))
+
 information-le : (p : List ℕ) → malformedSystem p ≡ false → length (information p) ≤ 15
 unfolding malformedSystem
 information-le p e =
@@ -144,7 +151,10 @@ module _ (p : List ℕ) (right : malformed p ≡ false) where
   right-rest =
       or-right (leb (length p) (lead p)) (cond (eqb (address p) 0xff) (malformedSystem p) (ltb 16 (length (segmentIn p)) || eqb (link p) 3)) right
 
-  right-information : address p ≡ 0xff → length (information p) ≤ 15
+  pub right-code : address p ≡ 0xff → code p ≤ 8
+  right-code e = code-le p (rw (eq-eqb (address p) 0xff e) at right-rest)
+
+  pub right-information : address p ≡ 0xff → length (information p) ≤ 15
   right-information e = information-le p (rw (eq-eqb (address p) 0xff e) at right-rest)
 
   right-circuit : (address p ≡ 0xff → ⊥) → (ltb 16 (length (segmentIn p)) || eqb (link p) 3) ≡ false

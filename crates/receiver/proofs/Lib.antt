@@ -2,5 +2,6 @@
 pub mod InRange
 pub mod ReadingCalls
 pub mod ReadLaws
+pub mod ToldInRange
 pub mod ReadsTell
 pub mod ReadTellsFirst

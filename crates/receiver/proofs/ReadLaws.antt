@@ -116,13 +116,13 @@ none-holds false false true h = absurd (omega arith)
 none-holds false false false h = (refl, refl, refl)
 
 -- what is known of a reading call that is accepted
-record Accepted (r : Receiver) (store bytes : List ℕ) (from to : ℕ) : Type 0 where
-  range : inRange r ≡ true
-  long : storeLength ≤ length store
-  order : from ≤ to
-  lent : to ≤ 8 * length bytes
+pub record Accepted (r : Receiver) (store bytes : List ℕ) (from to : ℕ) : Type 0 where
+  pub range : inRange r ≡ true
+  pub long : storeLength ≤ length store
+  pub order : from ≤ to
+  pub lent : to ≤ 8 * length bytes
 
-accepted : (r : Receiver) (store bytes : List ℕ) (from to : ℕ) → readRefusal r store bytes from to ≡ 0 → Accepted r store bytes from to
+pub accepted : (r : Receiver) (store bytes : List ℕ) (from to : ℕ) → readRefusal r store bytes from to ≡ 0 → Accepted r store bytes from to
 unfolding readRefusal
 accepted r store bytes from to e =
     let (range, short, bits) = none-holds (not (inRange r)) (ltb (length store) storeLength) (ltb to from || ltb (8 * length bytes) to) e in
