@@ -2,16 +2,17 @@
  * The AES18 user-bit channel: messages in the user bits of AES3 audio (ITU-R BS.776 with HDLC framing).
  *
  * A sender lists circuits, takes messages and makes blocks of user bits. A receiver lists circuits and reads bits, cut anywhere, up to the next
- * notice. These are the functions of the static library libaes18.a for x86-64, which `rt staticlib aes18` proves and writes; docs/PROOFS.md says what
- * is proved of them. Document 01 is the specification: refusals have its numbers, and its words stand in quotation marks.
+ * notice. Totals, kept beside a receiver, are what the notices of a pass add up to at each circuit. These are the functions of the static library
+ * libaes18.a for x86-64, which `rt staticlib aes18` proves and writes; docs/PROOFS.md says what is proved of them. Document 01 is the specification:
+ * refusals have its numbers, and its words stand in quotation marks.
  *
  * What is lent. Every array is lent as a pointer and its length in bytes, for the time of the call. With length 0 any pointer will do, a null
- * pointer too, and is not followed. An array that a call writes (record, block, answer, and the store of an offer and of a read) must not overlap
- * any other array of the same call. Arrays that are only read may overlap each other.
+ * pointer too, and is not followed. An array that a call writes (record, totals, block, the answer of a block and of a read, and the store of an
+ * offer and of a read) must not overlap any other array of the same call. Arrays that are only read may overlap each other.
  *
  * Ends. All that a sender or a receiver is stands in its record and its store. The calls keep no other state, take no memory from the system
  * and wait for nothing, so calls for different ends may interrupt each other or run at the same time. Each end lends the record as the call
- * before left it, and the same store in all its calls; nobody else writes either in between.
+ * before left it, and the same store in all its calls; nobody else writes either in between. A record of totals is lent in the same way.
  *
  * Answers. Every call returns AES18_ACCEPTED or the number of a refusal, for any input; nothing has to be checked before. A refused call leaves
  * every lent byte as it was, but for a refused listing, which writes the record of no circuits.
@@ -53,6 +54,7 @@ extern "C" {
 #define AES18_RECEIVER_STORE 16400
 #define AES18_BLOCK_ANSWER 8
 #define AES18_READ_ANSWER 16
+#define AES18_TOTALS_RECORD 64
 
 /*
  * The store. Region c begins at byte 4096 * c and belongs to circuit number c, 0 to 3. At a sender the message last taken stands at the start of
@@ -141,6 +143,14 @@ extern "C" {
  *
  * Out of range, and refused by RECORD, are: more than four circuits, circuits that a listing refuses by ADDRESS, EXTENSION or ALIKE, a number of a
  * listed circuit outside what stands here, a circuit last served above 3, a framing that no bits leave, and 2 or more where a byte is 1 or 0.
+ *
+ * The record of totals, 64 bytes:
+ *   0 to 63  for each circuit number, 0 to 3, 16 bytes:
+ *              0 to 3    messages whole
+ *              4 to 7    their bytes
+ *              8 to 11   packets lost
+ *              12 to 15  packets orphaned
+ * The empty one is 64 times 0, which a caller writes itself. None is out of range.
  */
 
 /*
@@ -245,6 +255,28 @@ uint32_t aes18_receiver_read(uint8_t *record, size_t record_len, uint8_t *store,
 #define AES18_FATE_WHOLE 3  /* the last or only packet of a message, which is handed over */
 #define AES18_FATE_ORPHAN 4 /* a packet between or last, and no message is open */
 #define AES18_FATE_WRONG 5  /* its header or length does not fit; no message is open behind it */
+
+/*
+ * Notes the notice of a read's answer in a record of totals. A CIRCUIT notice adds at its circuit number:
+ *   1 to the messages whole, and the message's length to their bytes, if the fate is WHOLE;
+ *   the loss to the packets lost, whatever the fate;
+ *   1 to the packets orphaned if the fate is ORPHAN; WRONG adds nothing there.
+ * So each figure is the smaller of its total over all notices noted since the record was empty and AES18_TOTALS_MOST, which stands for that many or
+ * more. Other notices, circuit numbers above 3 and bytes that are the answer of no notice change nothing. The bits read are not looked at.
+ * Note an answer only if its read was accepted: behind a refused one the answer still holds the notice before, which would count twice.
+ * Refusals: SHORT.
+ */
+uint32_t aes18_totals_note(uint8_t *totals, size_t totals_len, const uint8_t *answer, size_t answer_len);
+
+/* Where the figures stand in totals: those of circuit number c from byte AES18_TOTALS_CIRCUIT * c on, and there each at its own place. */
+#define AES18_TOTALS_CIRCUIT 16
+#define AES18_TOTALS_MESSAGES 0
+#define AES18_TOTALS_BYTES 4
+#define AES18_TOTALS_LOST 8
+#define AES18_TOTALS_ORPHANED 12
+
+/* The highest figure. */
+#define AES18_TOTALS_MOST 4294967295u
 
 #ifdef __cplusplus
 }

@@ -12,7 +12,7 @@
 
 enum { PAGE = 4096, ARENA = 5 * PAGE, BEFORE = 0xA5, OLD = 0x5A };
 
-/* The arrays of a call; INPUT is its list, message, system information or bits. */
+/* The arrays of a call; RECORD is an end's record or one of totals, INPUT a list, message, system information, bits or an answer to note. */
 enum { RECORD, STORE, INPUT, BLOCK, ANSWER, ARRAYS };
 
 struct call {
@@ -23,7 +23,7 @@ struct call {
     uint64_t from, to;
 };
 
-/* One of the five functions, and the arrays that it writes where it accepts and where it refuses. */
+/* One of the six functions, and the arrays that it writes where it accepts and where it refuses. */
 struct function {
     uint32_t (*run)(const struct call *c, uint8_t *const at[ARRAYS]);
     unsigned writes, writes_refused;
@@ -97,6 +97,11 @@ static uint32_t receiver_read(const struct call *c, uint8_t *const at[ARRAYS])
                                c->length[ANSWER]);
 }
 
+static uint32_t totals_note(const struct call *c, uint8_t *const at[ARRAYS])
+{
+    return aes18_totals_note(at[RECORD], c->length[RECORD], at[INPUT], c->length[INPUT]);
+}
+
 static const struct function list_sender = {sender_list, 1 << RECORD, 1 << RECORD, AES18_SENDER_RECORD, 0, 0};
 static const struct function offer = {sender_offer, 1 << RECORD | 1 << STORE, 0, AES18_SENDER_RECORD, AES18_SENDER_STORE, 0};
 static const struct function block = {
@@ -104,6 +109,7 @@ static const struct function block = {
 static const struct function list_receiver = {receiver_list, 1 << RECORD, 1 << RECORD, AES18_RECEIVER_RECORD, 0, 0};
 static const struct function reading = {
     receiver_read, 1 << RECORD | 1 << STORE | 1 << ANSWER, 0, AES18_RECEIVER_RECORD, AES18_RECEIVER_STORE, AES18_READ_ANSWER};
+static const struct function noting = {totals_note, 1 << RECORD, 0, AES18_TOTALS_RECORD, 0, 0};
 
 static void make_arenas(void)
 {
@@ -608,6 +614,151 @@ static void test_notices(void)
     ALL(c.bytes[STORE] + AES18_SYSTEM_PLACE + 2, OLD, 14);
 }
 
+/* An orphan behind one lost packet, with bits read and bytes behind the answer. */
+static const uint8_t orphan[AES18_READ_ANSWER + 3] = {AES18_NOTICE_CIRCUIT, 0, 1, AES18_FATE_ORPHAN, 0, 0, 0, 0, 9, 9, 9, 9, 9, 9, 9, 9, 9, 9, 9};
+
+/* Notes the orphan in totals of old bytes, with these lengths: one more is lost and one more orphaned, or nothing changes. */
+static void note_orphan(size_t totals, size_t answer)
+{
+    static struct call c;
+    int fits = totals >= AES18_TOTALS_RECORD && answer >= AES18_READ_ANSWER;
+
+    prepare(&c, &noting);
+    put(&c, INPUT, orphan, answer);
+    c.length[RECORD] = totals;
+    CALL(&c, &noting, fits ? AES18_ACCEPTED : AES18_REFUSED_SHORT);
+    IS(c.bytes[RECORD][AES18_TOTALS_LOST], OLD + (uint64_t)fits);
+    IS(c.bytes[RECORD][AES18_TOTALS_ORPHANED], OLD + (uint64_t)fits);
+    c.bytes[RECORD][AES18_TOTALS_LOST] = c.bytes[RECORD][AES18_TOTALS_ORPHANED] = OLD;
+    ALL(c.bytes[RECORD], OLD, AES18_TOTALS_RECORD + 5);
+}
+
+/* Totals and answers of all lengths. */
+static void test_noting_lengths(void)
+{
+    size_t i;
+
+    for (i = 0; i <= AES18_TOTALS_RECORD + 5; i++)
+        note_orphan(i, AES18_READ_ANSWER);
+    for (i = 0; i <= sizeof orphan; i++)
+        note_orphan(AES18_TOTALS_RECORD, i);
+    note_orphan(0, 0);
+    note_orphan(AES18_TOTALS_RECORD - 1, AES18_READ_ANSWER - 1);
+}
+
+/* Totals and answer side by side in one array, in both orders: arrays that touch do not overlap. */
+static void test_noting_side_by_side(void)
+{
+    uint8_t bytes[AES18_READ_ANSWER + AES18_TOTALS_RECORD + AES18_READ_ANSWER];
+    uint8_t *totals = bytes + AES18_READ_ANSWER, *behind = totals + AES18_TOTALS_RECORD;
+
+    memset(bytes, 0, sizeof bytes);
+    memcpy(bytes, orphan, AES18_READ_ANSWER);
+    memcpy(behind, orphan, AES18_READ_ANSWER);
+    IS(aes18_totals_note(totals, AES18_TOTALS_RECORD, bytes, AES18_READ_ANSWER), AES18_ACCEPTED);
+    IS(aes18_totals_note(totals, AES18_TOTALS_RECORD, behind, AES18_READ_ANSWER), AES18_ACCEPTED);
+    IS(number(totals + AES18_TOTALS_LOST, 4), 2);
+    IS(number(totals + AES18_TOTALS_ORPHANED, 4), 2);
+    EQUAL(bytes, orphan, AES18_READ_ANSWER);
+    EQUAL(behind, orphan, AES18_READ_ANSWER);
+}
+
+/* What an answer's first bytes make of the figures of its circuit: messages, bytes, lost, orphaned. */
+#define MOST AES18_TOTALS_MOST
+static const struct {
+    uint8_t answer[8];
+    uint32_t before[4], after[4];
+} figures[] = {
+    {{AES18_NOTICE_CIRCUIT, 0, 0, AES18_FATE_COPY}, {1, 2, 3, 4}, {1, 2, 3, 4}},
+    {{AES18_NOTICE_CIRCUIT, 1, 9, AES18_FATE_COPY}, {1, 2, 3, 4}, {1, 2, 12, 4}},
+    {{AES18_NOTICE_CIRCUIT, 2, 1, AES18_FATE_BEGUN}, {1, 2, 3, 4}, {1, 2, 4, 4}},
+    {{AES18_NOTICE_CIRCUIT, 3, 1, AES18_FATE_HELD}, {1, 2, 3, 4}, {1, 2, 4, 4}},
+    {{AES18_NOTICE_CIRCUIT, 0, 0, AES18_FATE_WHOLE}, {1, 2, 3, 4}, {2, 2, 3, 4}},
+    {{AES18_NOTICE_CIRCUIT, 1, 6, AES18_FATE_WHOLE, 0xFE, 0x0F}, {1, 2, 3, 4}, {2, 4096, 9, 4}},
+    {{AES18_NOTICE_CIRCUIT, 2, 255, AES18_FATE_WHOLE, 255, 255}, {255, 65535, 1, 4}, {256, 131070, 256, 4}},
+    {{AES18_NOTICE_CIRCUIT, 3, 2, AES18_FATE_ORPHAN}, {1, 2, 3, 16777215}, {1, 2, 5, 16777216}},
+    {{AES18_NOTICE_CIRCUIT, 0, 2, AES18_FATE_WRONG}, {1, 2, 3, 4}, {1, 2, 5, 4}},
+    /* to the most, past it and at it, each figure on its own */
+    {{AES18_NOTICE_CIRCUIT, 0, 2, AES18_FATE_WHOLE, 3}, {MOST - 1, MOST - 3, MOST - 2, 4}, {MOST, MOST, MOST, 4}},
+    {{AES18_NOTICE_CIRCUIT, 1, 2, AES18_FATE_WHOLE, 3}, {MOST, 2, 3, 4}, {MOST, 5, 5, 4}},
+    {{AES18_NOTICE_CIRCUIT, 2, 2, AES18_FATE_WHOLE, 3}, {1, MOST - 2, 3, 4}, {2, MOST, 5, 4}},
+    {{AES18_NOTICE_CIRCUIT, 3, 2, AES18_FATE_ORPHAN}, {1, 2, MOST - 1, 4}, {1, 2, MOST, 5}},
+    {{AES18_NOTICE_CIRCUIT, 0, 2, AES18_FATE_ORPHAN}, {1, 2, 3, MOST - 1}, {1, 2, 5, MOST}},
+    {{AES18_NOTICE_CIRCUIT, 1, 2, AES18_FATE_ORPHAN}, {1, 2, 3, MOST}, {1, 2, 5, MOST}},
+    {{AES18_NOTICE_CIRCUIT, 2, 255, AES18_FATE_WHOLE, 255, 255}, {MOST, MOST, MOST, MOST}, {MOST, MOST, MOST, MOST}},
+};
+
+/* Totals of old bytes, with these figures at a circuit. */
+static void put_figures(uint8_t *totals, size_t circuit, const uint32_t values[4])
+{
+    static const size_t places[4] = {AES18_TOTALS_MESSAGES, AES18_TOTALS_BYTES, AES18_TOTALS_LOST, AES18_TOTALS_ORPHANED};
+    size_t i;
+
+    memset(totals, OLD, AES18_TOTALS_RECORD);
+    for (i = 0; i < 16; i++)
+        totals[AES18_TOTALS_CIRCUIT * circuit + places[i / 4] + i % 4] = (uint8_t)(values[i / 4] >> 8 * (i % 4));
+}
+
+static void test_figures(void)
+{
+    static struct call c;
+    uint8_t after[AES18_TOTALS_RECORD];
+    size_t i;
+
+    for (i = 0; i < COUNT(figures); i++) {
+        prepare(&c, &noting);
+        memcpy(c.bytes[INPUT], figures[i].answer, sizeof figures[i].answer);
+        c.length[INPUT] = AES18_READ_ANSWER;
+        put_figures(c.bytes[RECORD], figures[i].answer[AES18_READ_CIRCUIT], figures[i].before);
+        put_figures(after, figures[i].answer[AES18_READ_CIRCUIT], figures[i].after);
+        CALL(&c, &noting, AES18_ACCEPTED);
+        EQUAL(c.bytes[RECORD], after, sizeof after);
+    }
+}
+
+/* First bytes of answers that count nowhere. */
+static const uint8_t uncounted[][8] = {
+    /* notices without a circuit, and circuit numbers above 3 */
+    {AES18_NOTICE_END}, {AES18_NOTICE_SPOILT}, {AES18_NOTICE_MALFORMED}, {AES18_NOTICE_SYSTEM, 1, 2, 3}, {AES18_NOTICE_ELSEWHERE},
+    {AES18_NOTICE_CIRCUIT, 4, 1, AES18_FATE_WHOLE, 9}, {AES18_NOTICE_CIRCUIT, 255, 1, AES18_FATE_ORPHAN},
+    /* no notice: its number or its fate, a length without a message, a byte that is always 0 */
+    {6, 0, 1, AES18_FATE_WHOLE, 9}, {AES18_NOTICE_CIRCUIT + 128, 0, 1, AES18_FATE_ORPHAN}, {AES18_NOTICE_CIRCUIT, 0, 1, 6},
+    {AES18_NOTICE_CIRCUIT, 0, 1, 255}, {AES18_NOTICE_CIRCUIT, 0, 1, AES18_FATE_COPY, 9}, {AES18_NOTICE_CIRCUIT, 0, 1, AES18_FATE_BEGUN, 9},
+    {AES18_NOTICE_CIRCUIT, 0, 1, AES18_FATE_HELD, 9}, {AES18_NOTICE_CIRCUIT, 0, 1, AES18_FATE_ORPHAN, 0, 9},
+    {AES18_NOTICE_CIRCUIT, 0, 1, AES18_FATE_WRONG, 0, 9}, {AES18_NOTICE_CIRCUIT, 0, 1, AES18_FATE_WHOLE, 9, 0, 1},
+    {AES18_NOTICE_CIRCUIT, 0, 1, AES18_FATE_ORPHAN, 0, 0, 0, 1}, {AES18_NOTICE_END, 0, 1, AES18_FATE_WHOLE, 9},
+};
+
+static void test_uncounted(void)
+{
+    static struct call c;
+    size_t i;
+
+    for (i = 0; i < COUNT(uncounted); i++) {
+        prepare(&c, &noting);
+        memcpy(c.bytes[INPUT], uncounted[i], sizeof uncounted[i]);
+        c.length[INPUT] = AES18_READ_ANSWER;
+        CALL(&c, &noting, AES18_ACCEPTED);
+        ALL(c.bytes[RECORD], OLD, AES18_TOTALS_RECORD);
+    }
+}
+
+/* The totals of the answers above, from empty ones. */
+static void test_totals(void)
+{
+    static const uint8_t totals[AES18_TOTALS_RECORD] = {1, 0, 0, 0, 0, 0, 0, 0, 1, 0, 0, 0, 1, 0, 0, 0, 1, 0, 0, 0, 46};
+    static struct call c;
+    size_t i;
+
+    prepare(&c, &noting);
+    memset(c.bytes[RECORD], 0, AES18_TOTALS_RECORD);
+    for (i = 0; i < COUNT(answers); i++) {
+        put(&c, INPUT, answers[i], sizeof answers[i]);
+        CALL(&c, &noting, AES18_ACCEPTED);
+    }
+    EQUAL(c.bytes[RECORD], totals, sizeof totals);
+}
+
 static const uint8_t four_circuits[] = {0x01, 0, 0, 0x01, 1, 0, 0x7E, 1, 0xFF, 0xFE, 0, 0};
 static const size_t message_length[AES18_MOST_CIRCUITS] = {0, 15, 16, AES18_LONGEST_MESSAGE};
 
@@ -684,6 +835,11 @@ static void test_all(uint8_t *place)
     test_records();
     test_framing();
     test_notices();
+    test_noting_lengths();
+    test_noting_side_by_side();
+    test_figures();
+    test_uncounted();
+    test_totals();
     test_pass(AES18_FEWEST_BLOCK_BITS);
     test_pass(1003);
     test_pass(AES18_MOST_BLOCK_BITS);

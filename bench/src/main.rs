@@ -63,7 +63,7 @@ fn head() -> Result<(), String> {
         "The figures are of this run on this machine{}.",
         processor()
     ))?;
-    say("library    libaes18.a through its five functions in C; a record is bytes, checked in every call")?;
+    say("library    libaes18.a through its functions in C; a record is bytes, checked in every call")?;
     say(
         "plain C    bench/plain.c; a record is a struct, checked in every call but for its framing",
     )?;

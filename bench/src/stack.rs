@@ -7,7 +7,7 @@ use std::cell::Cell;
 use std::ffi::c_void;
 use std::marker::PhantomData;
 
-/// The names of the five calls.
+/// The names of both ends' calls.
 pub const CALLS: [&str; 5] = [
     "sender_list",
     "sender_offer",
@@ -27,11 +27,11 @@ enum Call {
 }
 
 thread_local! {
-    /// The bytes that the deepest of each of the five calls has touched.
+    /// The bytes that the deepest of each of these calls has touched.
     static DEEPEST: Cell<[usize; 5]> = const { Cell::new([0; 5]) };
 }
 
-/// The bytes that the deepest of each of the five calls touches while the traffic's blocks are made and the channel is read.
+/// The bytes that the deepest of each of these calls touches while the traffic's blocks are made and the channel is read.
 pub fn depths<S: Side>(traffic: &Traffic, channel: &Channel) -> Result<[usize; 5], u32> {
     DEEPEST.set([0; 5]);
     make::<Painted<S>>(traffic, &mut Made::default())?;

@@ -235,6 +235,24 @@ impl Both {
         }
         Ok(number)
     }
+
+    pub fn totals_note(&mut self, totals: &mut [u8], answer: &[u8]) -> Compared<u32> {
+        let before = totals.to_vec();
+        let mut copy = Guarded::of(totals);
+        let library = self.library.totals_note(copy.lent(), answer);
+        let reference = calls::totals_note(totals, answer);
+        let number = self.compare(Call {
+            function: Function::TotalsNote,
+            given: &|| format!("totals {}, answer {}", hex(&before), hex(answer)),
+            library,
+            reference,
+            left: &[("the totals", &copy, totals)],
+        })?;
+        if number == 0 {
+            self.tally.noted.add(&before, answer);
+        }
+        Ok(number)
+    }
 }
 
 /// What a call was given, for the message about a difference.

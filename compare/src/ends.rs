@@ -1,5 +1,5 @@
-//! A sender and a receiver that go from call to call. Beside the calls on the record's bytes runs the reference that keeps its own queues
-//! and bits from the listing on; what its record would be, and what it answers, is compared after each call.
+//! A sender and a receiver that go from call to call. Beside the calls on the record's bytes runs the reference that keeps its own queues,
+//! bits and sums from the listing on; what its record would be, and what it answers, is compared after each call.
 
 use crate::both::{differ, shown, Both, Compared};
 use crate::random::Random;
@@ -9,14 +9,15 @@ use aes18_reference::calls::{BlockCall, OfferCall, ReadCall, BLOCK_ANSWER, READ_
 use aes18_reference::receiver::{Notice, Read, Receiver};
 use aes18_reference::records::{RECEIVER_RECORD, SENDER_RECORD};
 use aes18_reference::sender::{Block, Sender};
+use aes18_reference::totals::{Figures, Totals, TOTALS_RECORD};
 use aes18_reference::{RECEIVER_STORE, SENDER_STORE};
 
-/// The library, which gave what the reference makes of the record's bytes, must also give what the reference has with its own queues and bits.
+/// The library, which gave what the reference makes of the record's bytes, must also give what the reference has with its own queues, bits and sums.
 fn same(part: &str, library: &[u8], history: &[u8]) -> Compared<()> {
     if library == history {
         return Ok(());
     }
-    let call = "a call beside the reference that keeps its own queues and bits";
+    let call = "a call beside the reference that keeps its own queues, bits and sums";
     differ(
         call.to_string(),
         part,
@@ -119,15 +120,19 @@ pub type Tell<'a> = dyn FnMut(Notice, &[u8]) + 'a;
 pub struct Reading {
     record: Vec<u8>,
     store: Vec<u8>,
+    totals: Vec<u8>,
     history: Receiver,
     history_store: Vec<u8>,
+    history_totals: Totals,
 }
 
 impl Reading {
-    /// A fresh receiver of a list that is accepted; record and store may be longer than they must.
+    /// A fresh receiver of a list that is accepted, and empty totals; record, store and totals may be longer than they must.
     pub fn list(both: &mut Both, random: &mut Random, list: &[u8]) -> Compared<Reading> {
         let mut record = spare(random, RECEIVER_RECORD);
         let store = spare(random, RECEIVER_STORE);
+        let mut totals = spare(random, TOTALS_RECORD);
+        totals[..TOTALS_RECORD].fill(0);
         both.receiver_list(&mut record, list)?;
         let history = Receiver::list(list).expect("an accepted list");
         same("the record", &record[..RECEIVER_RECORD], &history.record())?;
@@ -135,11 +140,13 @@ impl Reading {
             record,
             history_store: store.clone(),
             store,
+            totals,
             history,
+            history_totals: Totals::default(),
         })
     }
 
-    /// One reading call; none if it is refused.
+    /// One reading call, whose notice is noted; none if it is refused.
     pub fn read(&mut self, both: &mut Both, call: ReadCall<'_>) -> Compared<Option<Read>> {
         let mut answer = [0xEE; READ_ANSWER];
         let answered = both.receiver_read(&mut self.record, &mut self.store, call, &mut answer)?;
@@ -155,8 +162,25 @@ impl Reading {
         same("the store", &self.store, &self.history_store)?;
         if let Ok(read) = &read {
             same("the answer's bytes", &answer, &read_answer(read))?;
+            self.note(both, &answer, read.notice)?;
         }
         Ok(read.ok())
+    }
+
+    /// Notes an answer and its notice.
+    fn note(&mut self, both: &mut Both, answer: &[u8], notice: Notice) -> Compared<()> {
+        both.totals_note(&mut self.totals, answer)?;
+        self.history_totals.add(&[notice]);
+        same(
+            "the totals",
+            &self.totals[..TOTALS_RECORD],
+            &self.history_totals.record(),
+        )
+    }
+
+    /// The figures that the totals have of a circuit number.
+    pub fn figures(&self, number: usize) -> Figures {
+        Totals::unpack(&self.totals[..TOTALS_RECORD]).circuits[number]
     }
 
     /// Reads all of the call's bits, going on behind each notice. `tell` is given each notice, and the store as it was left then.

@@ -1,4 +1,4 @@
-//! Circuit lists, messages and the values of block calls.
+//! Circuit lists, messages and the values of block calls; bytes of any length and value.
 
 use crate::random::Random;
 use aes18_reference::calls::BlockCall;
@@ -137,4 +137,21 @@ pub fn buffer(random: &mut Random, n: u64) -> Vec<u8> {
         _ => needed + random.below(20),
     };
     random.bytes(length)
+}
+
+/// The bytes, sometimes too few, or more.
+pub fn any_length(random: &mut Random, bytes: &[u8]) -> Vec<u8> {
+    let mut bytes = bytes.to_vec();
+    match random.below(16) {
+        0 => bytes.truncate(random.below(bytes.len())),
+        1 => bytes.truncate(bytes.len() - 1),
+        2 => bytes.extend([0xC3; 5]),
+        _ => {}
+    }
+    bytes
+}
+
+/// Each place of this many bytes, with each value.
+pub fn every_byte(length: usize) -> impl Iterator<Item = (usize, u8)> {
+    (0..length).flat_map(|at| (0..=255).map(move |value| (at, value)))
 }

@@ -1,4 +1,4 @@
-//! The library's five functions on slices.
+//! The library's functions on slices.
 
 use aes18::ffi;
 use aes18_reference::calls::{BlockCall, OfferCall, ReadCall};
@@ -127,6 +127,19 @@ impl Library {
                 call.from,
                 call.to,
                 self.write(answer),
+                answer.len(),
+            )
+        }
+    }
+
+    pub fn totals_note(&mut self, totals: &mut [u8], answer: &[u8]) -> u32 {
+        self.nulls = !self.nulls;
+        // SAFETY: as in `sender_list`.
+        unsafe {
+            ffi::aes18_totals_note(
+                self.write(totals),
+                totals.len(),
+                self.read(answer),
                 answer.len(),
             )
         }

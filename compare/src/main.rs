@@ -18,7 +18,7 @@ use random::Random;
 use std::env;
 use std::process::ExitCode;
 use std::time::{Duration, Instant, SystemTime, UNIX_EPOCH};
-use trials::{cuts, lengths, listing, packets, passes, reading, records, sending};
+use trials::{cuts, lengths, listing, packets, passes, reading, records, sending, totals};
 
 /// A trial under its name, and how often it is made in a lap.
 type Trial = (
@@ -27,7 +27,7 @@ type Trial = (
     fn(&mut Both, &mut Random) -> Compared<()>,
 );
 
-const TRIALS: [Trial; 13] = [
+const TRIALS: [Trial; 15] = [
     ("listing", 10, listing::any),
     ("sending", 20, sending::run),
     ("reading", 10, reading::run),
@@ -48,6 +48,8 @@ const TRIALS: [Trial; 13] = [
         1,
         records::every_receiver_byte,
     ),
+    ("any totals", 60, totals::any),
+    ("a list of notices near the most", 20, totals::near_the_most),
     ("passes", 150, passes::pass),
 ];
 /// Laps of the gate.
@@ -79,6 +81,7 @@ fn gate() -> Result<(), String> {
     let mut both = Both::default();
     listing::all(&mut both).map_err(|difference| show(0, "every circuit", 0, &difference))?;
     packets::all(&mut both).map_err(|difference| show(0, "every packet", 0, &difference))?;
+    totals::all(&mut both).map_err(|difference| show(0, "every answer", 0, &difference))?;
     lengths::all(&mut both, &mut Random::new(0))
         .map_err(|difference| show(0, "every length", 0, &difference))?;
     for seed in 1..=LAPS {

@@ -1,5 +1,8 @@
 //! What was seen: how many calls of each function, how often each answer, notice and fate.
 
+use aes18_reference::calls::answered_notice;
+use aes18_reference::receiver::{Fate, Notice};
+use aes18_reference::totals::{Figures, Totals, MOST};
 use std::collections::BTreeMap;
 use std::fmt;
 
@@ -10,15 +13,17 @@ pub enum Function {
     SenderBlock,
     ReceiverList,
     ReceiverRead,
+    TotalsNote,
 }
 
 /// Each function with the numbers it can answer.
-const ANSWERS: [(Function, &[u32]); 5] = [
+const ANSWERS: [(Function, &[u32]); 6] = [
     (Function::SenderList, &[0, 1, 2, 3, 4, 255]),
     (Function::SenderOffer, &[0, 5, 6, 7, 8, 9, 10, 14, 255]),
     (Function::SenderBlock, &[0, 5, 11, 12, 13, 14, 255]),
     (Function::ReceiverList, &[0, 1, 2, 3, 4, 255]),
     (Function::ReceiverRead, &[0, 5, 14, 15, 255]),
+    (Function::TotalsNote, &[0, 255]),
 ];
 const NOTICES: [&str; 6] = [
     "End",
@@ -29,6 +34,9 @@ const NOTICES: [&str; 6] = [
     "circuit",
 ];
 const FATES: [&str; 6] = ["Copy", "Begun", "Held", "Whole", "Orphan", "Wrong"];
+/// What else an answer that is noted can be.
+const ODD: [&str; 3] = ["no notice", "number above 3", "Whole of no bytes"];
+const FIGURES: [&str; 4] = ["messages", "bytes", "lost", "orphaned"];
 
 /// What was seen of demand 3.
 #[derive(Default)]
@@ -79,11 +87,84 @@ impl fmt::Display for Claim {
     }
 }
 
+/// What was seen of the answers that were noted in totals.
+#[derive(Default)]
+pub struct Noted {
+    notices: [u64; 6],
+    /// Those of circuit numbers up to 3, by fate: all, and those with a loss above 0.
+    fates: [u64; 6],
+    losses: [u64; 6],
+    odd: [u64; 3],
+    /// How often each figure came to the most exactly, and how often its total passed it.
+    reached: [u64; 4],
+    passed: [u64; 4],
+}
+
+impl Noted {
+    /// Counts an answer that is noted in these totals.
+    pub fn add(&mut self, totals: &[u8], answer: &[u8]) {
+        let Some(notice) = answered_notice(answer) else {
+            self.odd[0] += 1;
+            return;
+        };
+        self.notices[usize::from(answer[0])] += 1;
+        let Notice::Circuit { number, loss, fate } = notice else {
+            return;
+        };
+        if number > 3 {
+            self.odd[1] += 1;
+            return;
+        }
+        self.odd[2] += u64::from(fate == Fate::Whole(0));
+        self.fates[usize::from(answer[3])] += 1;
+        self.losses[usize::from(answer[3])] += u64::from(loss > 0);
+        let before = Totals::unpack(totals);
+        let mut after = before.clone();
+        after.add(&[notice]);
+        self.add_figures(before.circuits[number], after.circuits[number]);
+    }
+
+    fn add_figures(&mut self, before: Figures, after: Figures) {
+        for figure in 0..4 {
+            self.reached[figure] += u64::from(before[figure] < MOST && after[figure] == MOST);
+            self.passed[figure] += u64::from(after[figure] > MOST);
+        }
+    }
+
+    /// What a comparison that covers everything has seen, and this one has not.
+    fn missing(&self) -> impl Iterator<Item = String> + '_ {
+        let never = |what: &'static str, names, counts| {
+            unseen(names, counts).map(move |never| format!("noting: {what}{never}"))
+        };
+        never("", &NOTICES, &self.notices)
+            .chain(never("", &FATES, &self.fates))
+            .chain(never("a loss with ", &FATES, &self.losses))
+            .chain(never("", &ODD, &self.odd))
+            .chain(never("the most of ", &FIGURES, &self.reached))
+            .chain(never("more than the most of ", &FIGURES, &self.passed))
+    }
+}
+
+impl fmt::Display for Noted {
+    fn fmt(&self, out: &mut fmt::Formatter<'_>) -> fmt::Result {
+        let (notices, odd) = (line(&NOTICES, &self.notices), line(&ODD, &self.odd));
+        writeln!(out, "noted: {notices}; {odd}")?;
+        let (fates, losses) = (line(&FATES, &self.fates), line(&FATES, &self.losses));
+        writeln!(out, "noted fates: {fates}; with a loss: {losses}")?;
+        let (reached, passed) = (line(&FIGURES, &self.reached), line(&FIGURES, &self.passed));
+        write!(
+            out,
+            "figures that came to the most: {reached}; that passed it: {passed}"
+        )
+    }
+}
+
 #[derive(Default)]
 pub struct Tally {
     answers: BTreeMap<(Function, u32), u64>,
     notices: [u64; 6],
     fates: [u64; 6],
+    pub noted: Noted,
     pub claim: Claim,
 }
 
@@ -119,7 +200,11 @@ impl Tally {
             .filter(|(_, count, wanted)| count < wanted);
         let few = few
             .map(|(name, count, wanted)| format!("demand 3: {count} {name}, fewer than {wanted}"));
-        answers.chain(notices).chain(few).collect()
+        answers
+            .chain(notices)
+            .chain(self.noted.missing())
+            .chain(few)
+            .collect()
     }
 }
 
@@ -155,6 +240,7 @@ impl fmt::Display for Tally {
         }
         writeln!(out, "notices: {}", line(&NOTICES, &self.notices))?;
         writeln!(out, "fates: {}", line(&FATES, &self.fates))?;
+        writeln!(out, "{}", self.noted)?;
         write!(out, "{}", self.claim)
     }
 }

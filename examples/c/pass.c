@@ -1,6 +1,6 @@
 /*
  * A pass in C. A sender lists two circuits, takes messages and makes blocks of user bits, the first with a system packet. A stretch of the bits is
- * damaged. A receiver reads them in two parts, cut inside a byte; every notice is printed, and what each circuit came to in the end.
+ * damaged. A receiver reads them in two parts, cut inside a byte; every notice is printed and noted in totals, and the totals are printed in the end.
  * examples/c/run builds and runs it; the file `expected` has what it prints.
  */
 #include "aes18.h"
@@ -29,7 +29,7 @@ static const char *const fates[] = {"Copy", "Begun", "Held", "Whole", "Orphan", 
 struct receiver {
     uint8_t record[AES18_RECEIVER_RECORD];
     uint8_t store[AES18_RECEIVER_STORE];
-    unsigned long whole[CIRCUITS], bytes[CIRCUITS], lost[CIRCUITS], orphaned[CIRCUITS];
+    uint8_t totals[AES18_TOTALS_RECORD];
 };
 
 /* Ends the program if a call was refused. */
@@ -81,26 +81,21 @@ static void damage(uint8_t *bits, size_t from, size_t to)
         bits[from / 8] = (uint8_t)(bits[from / 8] & ~(1u << from % 8));
 }
 
-/* Prints and counts a notice that names a circuit. */
-static void tell_circuit(struct receiver *r, const uint8_t *answer)
+/* Prints a notice that names a circuit. */
+static void tell_circuit(const struct receiver *r, const uint8_t *answer)
 {
     unsigned c = answer[AES18_READ_CIRCUIT], loss = answer[AES18_READ_LOSS], fate = answer[AES18_READ_FATE];
-    size_t length = (size_t)number(answer + AES18_READ_MESSAGE, 2);
 
     printf("circuit %u, loss %u, %s", c, loss, fates[fate]);
     if (fate == AES18_FATE_WHOLE) {
         printf(": ");
-        fwrite(r->store + c * AES18_REGION, 1, length, stdout);
+        fwrite(r->store + c * AES18_REGION, 1, (size_t)number(answer + AES18_READ_MESSAGE, 2), stdout);
     }
     printf("\n");
-    r->whole[c] += fate == AES18_FATE_WHOLE;
-    r->bytes[c] += length;
-    r->lost[c] += loss;
-    r->orphaned[c] += fate == AES18_FATE_ORPHAN;
 }
 
 /* Prints a notice. */
-static void tell(struct receiver *r, const uint8_t *answer)
+static void tell(const struct receiver *r, const uint8_t *answer)
 {
     switch (answer[AES18_READ_NOTICE]) {
     case AES18_NOTICE_END: printf("End\n"); break;
@@ -115,7 +110,7 @@ static void tell(struct receiver *r, const uint8_t *answer)
     }
 }
 
-/* Reads the bits from one number up to another, from notice to notice, until End. */
+/* Reads the bits from one number up to another, from notice to notice, until End, and notes each of them. */
 static void read_bits(struct receiver *r, const uint8_t *bits, size_t length, uint64_t from, uint64_t to)
 {
     uint8_t answer[AES18_READ_ANSWER];
@@ -123,10 +118,21 @@ static void read_bits(struct receiver *r, const uint8_t *bits, size_t length, ui
     do {
         check("reading",
               aes18_receiver_read(r->record, sizeof r->record, r->store, sizeof r->store, bits, length, from, to, answer, sizeof answer));
+        check("noting", aes18_totals_note(r->totals, sizeof r->totals, answer, sizeof answer));
         from += number(answer + AES18_READ_BITS, 8);
         printf("bit %4lu: ", (unsigned long)from);
         tell(r, answer);
     } while (answer[AES18_READ_NOTICE] != AES18_NOTICE_END);
+}
+
+/* Prints a circuit's totals. */
+static void tell_totals(const struct receiver *r, size_t c)
+{
+    const uint8_t *figures = r->totals + c * AES18_TOTALS_CIRCUIT;
+
+    printf("circuit %lu: messages whole %lu, their bytes %lu, packets lost %lu, orphaned %lu\n", (unsigned long)c,
+           (unsigned long)number(figures + AES18_TOTALS_MESSAGES, 4), (unsigned long)number(figures + AES18_TOTALS_BYTES, 4),
+           (unsigned long)number(figures + AES18_TOTALS_LOST, 4), (unsigned long)number(figures + AES18_TOTALS_ORPHANED, 4));
 }
 
 int main(void)
@@ -141,7 +147,6 @@ int main(void)
     read_bits(&r, bits, sizeof bits, 0, CUT);
     read_bits(&r, bits, sizeof bits, CUT, BLOCKS * BLOCK_BITS);
     for (c = 0; c < CIRCUITS; c++)
-        printf("circuit %lu: messages whole %lu, their bytes %lu, packets lost %lu, orphaned %lu\n", (unsigned long)c, r.whole[c], r.bytes[c],
-               r.lost[c], r.orphaned[c]);
+        tell_totals(&r, c);
     return EXIT_SUCCESS;
 }

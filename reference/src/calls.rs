@@ -5,6 +5,7 @@ use crate::packet::System;
 use crate::receiver::{Fate, Notice, Read, Receiver};
 use crate::records::{NO_RECEIVER, NO_SENDER, RECEIVER_RECORD, SENDER_RECORD};
 use crate::sender::{Block, Sender};
+use crate::totals::{Totals, TOTALS_RECORD};
 
 /// Bytes of the answer of block making.
 pub const BLOCK_ANSWER: usize = 8;
@@ -61,6 +62,38 @@ pub fn read_answer(read: &Read) -> [u8; READ_ANSWER] {
     answer[..6].copy_from_slice(&notice);
     answer[8..].copy_from_slice(&read.bits.to_le_bytes());
     answer
+}
+
+/// The notice that reading answers by these bytes; none if no notice gives the eight before the bits read. It is guessed from the first six and has
+/// to give all of them.
+pub fn answered_notice(answer: &[u8]) -> Option<Notice> {
+    let [kind, one, two, three, low, high] = [0, 1, 2, 3, 4, 5].map(|at| usize::from(answer[at]));
+    let fates = [
+        Fate::Copy,
+        Fate::Begun,
+        Fate::Held,
+        Fate::Whole(low + 256 * high),
+        Fate::Orphan,
+        Fate::Wrong,
+    ];
+    let notice = match kind {
+        0 => Notice::End,
+        1 => Notice::Spoilt,
+        2 => Notice::Malformed,
+        3 => Notice::System {
+            enable: one as u64,
+            code: two as u64,
+            length: three,
+        },
+        4 => Notice::Elsewhere,
+        _ => Notice::Circuit {
+            number: one,
+            loss: two as u8,
+            fate: *fates.get(three)?,
+        },
+    };
+    let given = read_answer(&Read { notice, bits: 0 });
+    (given[..8] == answer[..8]).then_some(notice)
 }
 
 pub fn sender_list(record: &mut [u8], list: &[u8]) -> u32 {
@@ -175,4 +208,16 @@ pub fn receiver_read(
         Ok(())
     });
     number(&read)
+}
+
+pub fn totals_note(totals: &mut [u8], answer: &[u8]) -> u32 {
+    if totals.len() < TOTALS_RECORD || answer.len() < READ_ANSWER {
+        return TOO_SHORT;
+    }
+    let record = &mut totals[..TOTALS_RECORD];
+    let mut sums = Totals::unpack(record);
+    let noted: Vec<Notice> = answered_notice(answer).into_iter().collect();
+    sums.add(&noted);
+    record.copy_from_slice(&sums.record());
+    0
 }

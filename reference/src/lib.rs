@@ -3,8 +3,8 @@
 //! since the last flag and searches them for flags, bodies are unstuffed whole, the FCS is a long division, and a sender holds a queue
 //! of ready copies for each circuit. It is meant to be checked by reading it beside 01, not to be fast or small.
 //!
-//! [`sender::Sender`] and [`receiver::Receiver`] are the two ends with all they remember. [`calls`] has the functions of the C interface,
-//! which are given a record as bytes: there an end is built anew from the bytes in each call.
+//! [`sender::Sender`] and [`receiver::Receiver`] are the two ends with all they remember, [`totals::Totals`] what notices add up to. [`calls`] has
+//! the functions of the C interface, which are given a record as bytes: there an end is built anew from the bytes in each call.
 #![forbid(unsafe_code)]
 
 pub mod bits;
@@ -15,6 +15,7 @@ pub mod packet;
 pub mod receiver;
 pub mod records;
 pub mod sender;
+pub mod totals;
 
 /// Bytes of a store that belong to one circuit.
 pub const REGION: usize = 4096;

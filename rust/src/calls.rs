@@ -1,8 +1,8 @@
-//! The five calls on slices. The only place with unsafe code: a slice is valid for its length, and one that is borrowed to be written overlaps no
+//! The calls on slices. The only place with unsafe code: a slice is valid for its length, and one that is borrowed to be written overlaps no
 //! other, which is what [`ffi`] asks for.
 
 use crate::ffi;
-use crate::lengths::{RECEIVER_RECORD, SENDER_RECORD};
+use crate::lengths::{RECEIVER_RECORD, SENDER_RECORD, TOTALS_RECORD};
 use crate::refusal::Refusal;
 use crate::system::SystemPacket;
 
@@ -113,4 +113,21 @@ pub(crate) fn receiver_read(
         )
     };
     Refusal::answered(number).map(|()| answer)
+}
+
+/// Notes the notice of a read's answer in totals.
+pub(crate) fn totals_note(totals: &mut [u8; TOTALS_RECORD], answer: &[u8; 16]) {
+    // SAFETY: as said at the head of this file.
+    let number = unsafe {
+        ffi::aes18_totals_note(
+            totals.as_mut_ptr(),
+            totals.len(),
+            answer.as_ptr(),
+            answer.len(),
+        )
+    };
+    match number {
+        0 => {}
+        _ => unreachable!("noting is not refused where totals and answer have full length"),
+    }
 }

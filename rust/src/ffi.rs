@@ -1,4 +1,4 @@
-//! The five functions of the proved static library, as C sees them.
+//! The functions of the proved static library, as C sees them.
 //!
 //! A slice is a pointer and a length; a pointer whose length is 0 is not read and may be null. Each function answers 0 or a refusal's number, or
 //! 255 where the record or the answer is shorter than it has to be, and then it reads and writes nothing. Any numbers and any bytes may be passed.
@@ -6,7 +6,7 @@
 //! # Safety
 //!
 //! Each pointer must be valid for its length: for reads and writes where it is `*mut`, for reads where it is `*const`. A slice that is written (a
-//! record, the store of an offer or a read, a block, an answer) must overlap no other slice of the call.
+//! record, totals, the store of an offer or a read, a block, the answer of a block or a read) must overlap no other slice of the call.
 
 extern "C" {
     /// Lists a sender's circuits, three bytes each, and writes its record.
@@ -72,6 +72,15 @@ extern "C" {
         from: u64,
         to: u64,
         answer: *mut u8,
+        answer_len: usize,
+    ) -> u32;
+
+    /// Notes the notice of a read's answer in a record of totals. The record, 64 bytes: for each circuit number 0 to 3 messages whole, their bytes,
+    /// packets lost and packets orphaned, each 4 bytes lowest first.
+    pub fn aes18_totals_note(
+        totals: *mut u8,
+        totals_len: usize,
+        answer: *const u8,
         answer_len: usize,
     ) -> u32;
 }

@@ -14,3 +14,5 @@ pub const LONGEST_MESSAGE: usize = 4094;
 pub const SENDER_RECORD: usize = 46;
 /// Bytes of a receiver's record.
 pub const RECEIVER_RECORD: usize = 61;
+/// Bytes of a record of totals.
+pub const TOTALS_RECORD: usize = 64;

@@ -3,7 +3,8 @@
 //!
 //! A [`Sender`] lists up to four circuits, takes messages of up to 4,094 bytes there and makes blocks of user bits. A [`Receiver`] lists circuits
 //! and reads user bits, cut anywhere, up to the next [`Notice`]. Both are plain values. The bytes that they work on are lent in each call: a
-//! store of [`SENDER_STORE`] or [`RECEIVER_STORE`] bytes, the same one at every call of that end, which nobody else writes in between.
+//! store of [`SENDER_STORE`] or [`RECEIVER_STORE`] bytes, the same one at every call of that end, which nobody else writes in between. [`Totals`]
+//! beside a receiver are what its notices add up to.
 //!
 //! Every call takes any input: it answers its result or a [`Refusal`], and a refused call changes nothing.
 //!
@@ -74,14 +75,16 @@ mod receiver;
 mod refusal;
 mod sender;
 mod system;
+mod totals;
 
 pub use circuit::Circuit;
 pub use lengths::{
     LONGEST_MESSAGE, RECEIVER_RECORD, RECEIVER_STORE, REGION, SENDER_RECORD, SENDER_STORE,
-    SYSTEM_PLACE,
+    SYSTEM_PLACE, TOTALS_RECORD,
 };
 pub use notice::{Fate, Notice};
 pub use receiver::{Read, Receiver};
 pub use refusal::Refusal;
 pub use sender::{Block, Sender};
 pub use system::SystemPacket;
+pub use totals::{Figures, Totals};

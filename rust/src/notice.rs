@@ -120,6 +120,28 @@ impl Notice {
             _ => unreachable!("a reading call answers notice 0 to 5"),
         }
     }
+
+    /// A reading call's answer with this notice and no bits read; none where the notice has a number that no answer has room for.
+    pub(crate) fn answer(&self) -> Option<[u8; 16]> {
+        let mut answer = [0; 16];
+        answer[..6].copy_from_slice(&match *self {
+            Notice::End => [0, 0, 0, 0, 0, 0],
+            Notice::Spoilt => [1, 0, 0, 0, 0, 0],
+            Notice::Malformed => [2, 0, 0, 0, 0, 0],
+            Notice::System {
+                enable,
+                code,
+                length,
+            } => [3, enable, code, u8::try_from(length).ok()?, 0, 0],
+            Notice::Elsewhere => [4, 0, 0, 0, 0, 0],
+            Notice::Circuit { number, loss, fate } => {
+                let (fate, length) = fate.number()?;
+                let [low, high] = length.to_le_bytes();
+                [5, u8::try_from(number).ok()?, loss, fate, low, high]
+            }
+        });
+        Some(answer)
+    }
 }
 
 impl Fate {
@@ -134,5 +156,17 @@ impl Fate {
             5 => Fate::Wrong,
             _ => unreachable!("a reading call answers fate 0 to 5"),
         }
+    }
+
+    /// Its number in an answer, with the length at Whole; none where that has no room.
+    fn number(self) -> Option<(u8, u16)> {
+        Some(match self {
+            Fate::Copy => (0, 0),
+            Fate::Begun => (1, 0),
+            Fate::Held => (2, 0),
+            Fate::Whole(length) => (3, u16::try_from(length).ok()?),
+            Fate::Orphan => (4, 0),
+            Fate::Wrong => (5, 0),
+        })
     }
 }

@@ -181,9 +181,9 @@ pass: blocks of 256 bits, 4 to a character
                                                    1 lost of circuit 0^
        8 =====================..------------------------------------
 
-                        frames  copies   begun    held   whole  orphan   wrong    lost
-0  circuit 0 (01)            3       0       0       0       3       0       0       1
-1  circuit 1 (02:07)         2       0       1       0       0       1       0       1
+                        frames  copies   begun    held   whole       bytes  orphan   wrong    lost
+0  circuit 0 (01)            3       0       0       0       3          17       0       0       1
+1  circuit 1 (02:07)         2       0       1       0       0           0       1       0       1
 S  system packets            1
 E  elsewhere                 0
 M  malformed                 0
@@ -267,8 +267,8 @@ pass: rows of 1000 bits, 11 to a character
      bit
        0 0xxxxxxx0=======0========0xxxxxx0==============0==============S====E====M========.
 
-                        frames  copies   begun    held   whole  orphan   wrong    lost
-0  circuit 0 (01)            6       1       1       1       1       1       1       0
+                        frames  copies   begun    held   whole       bytes  orphan   wrong    lost
+0  circuit 0 (01)            6       1       1       1       1           6       1       1       0
 S  system packets            1
 E  elsewhere                 1
 M  malformed                 1
@@ -398,6 +398,8 @@ fn svg() {
     let title = "<title>block 2, bits 520 to 687: spoilt</title>";
     assert_eq!(svg.matches(title).count(), 1);
     assert!(svg.contains(">1 lost of 02:07</text>"));
+    assert!(svg.contains(">circuit 0 (01): frames 3, whole 3, bytes 17, lost 1</text>"));
+    assert!(svg.contains(">circuit 1 (02:07): frames 2, orphan 1, lost 1</text>"));
     assert_eq!(
         printed(&folder, &[&BLOCKS[..], &["--svg", "-", "pass"]].concat()),
         svg
@@ -536,4 +538,5 @@ fn help() {
     ] {
         assert!(text.contains(&format!("\n  {option} ")), "{option}");
     }
+    assert!(text.contains("4,294,967,295,\nwhich stands for that many or more"));
 }

@@ -1,4 +1,4 @@
-//! The library through its five functions in C.
+//! The library through its functions in C.
 
 use super::{answered, Ask, BlockAnswer, Offer, Part, ReadAnswer, Receiver, Sender, Side};
 use aes18::{ffi, RECEIVER_RECORD, SENDER_RECORD};

@@ -8,3 +8,4 @@ pub mod passes;
 pub mod reading;
 pub mod records;
 pub mod sending;
+pub mod totals;

@@ -1,6 +1,7 @@
 //! Demand 3 on whole passes. A sender's blocks are joined, damaged and read; which frames came whole follows from where each bit came from. If
 //! no other body passes, then at each address at which never more than six packets in a row are lost, the losses told add up to the packets
-//! lost between the first and the last to come, and exactly the messages of which every packet came are handed over, in order.
+//! lost between the first and the last to come, and exactly the messages of which every packet came are handed over, in order. The totals have these
+//! losses, and the number and bytes of these messages.
 
 use crate::both::{differ, Both, Compared};
 use crate::damage::{drop_or_double, joined, tear, values, Bit};
@@ -12,6 +13,7 @@ use aes18_reference::calls::{BlockCall, OfferCall};
 use aes18_reference::hdlc::{bodies, judge, Judged, FLAG};
 use aes18_reference::packet::{packet_count, Circuit};
 use aes18_reference::receiver::{Fate, Notice};
+use aes18_reference::totals::Figures;
 use aes18_reference::REGION;
 use std::collections::{HashMap, VecDeque};
 use std::ops::Range;
@@ -216,7 +218,23 @@ fn read(both: &mut Both, random: &mut Random, list: &[u8], arrived: &[Bit]) -> C
             }
         },
     )?;
+    for (number, told) in told.iter().enumerate() {
+        hold_totals(number, told, reading.figures(number))?;
+    }
     Ok(told)
+}
+
+/// Holds a circuit's figures in the totals against what the receiver told of it.
+fn hold_totals(number: usize, told: &Told, figures: Figures) -> Compared<()> {
+    let [messages, bytes, lost, _] = figures;
+    let lengths = told.handed_over.iter().map(Vec::len);
+    let expected = [lengths.len(), lengths.sum(), told.losses].map(|figure| figure as u128);
+    if [messages, bytes, lost] == expected {
+        return Ok(());
+    }
+    let call = format!("a pass, circuit number {number}");
+    let part = "messages, bytes and packets lost in the totals";
+    differ(call, part, format!("{figures:?}"), format!("{expected:?}"))
 }
 
 /// The frames that came whole, by the place where their opening flag arrived.

@@ -1,7 +1,7 @@
 //! Records as any bytes: noise, records made by calls, and such records with bytes changed.
 
 use crate::both::{Both, Compared};
-use crate::inputs;
+use crate::inputs::{self, any_length, every_byte};
 use crate::random::Random;
 use crate::stream::stream;
 use aes18_reference::bits::bytes_of;
@@ -142,18 +142,6 @@ fn any_record(random: &mut Random, record: &[u8]) -> Vec<u8> {
     any_length(random, &bytes)
 }
 
-/// The bytes, sometimes too few, or more.
-fn any_length(random: &mut Random, bytes: &[u8]) -> Vec<u8> {
-    let mut bytes = bytes.to_vec();
-    match random.below(16) {
-        0 => bytes.truncate(random.below(bytes.len())),
-        1 => bytes.truncate(bytes.len() - 1),
-        2 => bytes.extend([0xC3; 5]),
-        _ => {}
-    }
-    bytes
-}
-
 /// Every byte of a sender's record with all its 256 values.
 pub fn every_sender_byte(both: &mut Both, random: &mut Random) -> Compared<()> {
     let base = sender(random);
@@ -208,11 +196,6 @@ fn read_to_end(
         call.from += u64::from(answer[8]) + 256 * u64::from(answer[9]);
     }
     Ok(())
-}
-
-/// Each place of a record of this length, with each value.
-fn every_byte(length: usize) -> impl Iterator<Item = (usize, u8)> {
-    (0..length).flat_map(|at| (0..=255).map(move |value| (at, value)))
 }
 
 /// Numbers at the edges of lengths and places.

@@ -2,3 +2,4 @@
 pub mod Clipping
 pub mod SenderOutcomes
 pub mod ReceiverOutcomes
+pub mod TotalsOutcomes

@@ -2,3 +2,4 @@
 pub mod Room
 pub mod SenderCalls
 pub mod ReceiverCalls
+pub mod TotalsCalls

@@ -11,6 +11,7 @@ ghost use mathlib.Core.Path.{_≡_};
 ghost use Rattle.aes18.specs.SenderCalls as sends;
 ghost use Rattle.aes18.specs.SenderCalls.{systemAsked};
 ghost use Rattle.aes18.specs.ReceiverCalls as receives;
+ghost use Rattle.aes18.specs.TotalsCalls.{noteAnswered, noteRecord};
 
 // The answer where a record or an answer is shorter than it has to be.
 const NO_ROOM: u32 = 255;
@@ -165,4 +166,22 @@ pub extern "C" fn aes18_receiver_read(
         }
         Read::Refused(number) => number as u32,
     }
+}
+
+// A reading call's answer is noted in a record of pass totals.
+#[no_mangle]
+pub extern "C" fn aes18_totals_note(record: &mut [u8], answer: &[u8]) -> u32
+    ensures { λ r. ⌜ (r ≡ noteAnswered (now («record» .entry)) (now (answer .entry)))
+        × (now («record» .exit) ≡ noteRecord (now («record» .entry)) (now (answer .entry))) ⌝ }
+{
+    if record.len() < totals_layout::LENGTH {
+        return NO_ROOM;
+    }
+    if answer.len() < receiver_layout::ANSWER {
+        return NO_ROOM;
+    }
+    let totals = totals_layout::totals_in(record);
+    let after = totals_layout::answers::note(totals, answer);
+    totals_layout::put_totals(record, after);
+    0
 }

@@ -8,3 +8,5 @@ pub mod SenderLists
 pub mod ReceiverFitsKept
 pub mod ReceiverCarried
 pub mod ReceiverLists
+pub mod NoteCarried
+pub mod TotalsCarried

@@ -1,2 +1,3 @@
 -- The definitions of `exported`: lists of exported calls on the bytes lent to them.
 pub mod Lent
+pub mod Noting

@@ -9,7 +9,7 @@ use Rattle.layout.specs.Layout.{lowBytes}
 use Rattle.receiver_layout.specs.Answers.{noticeBytes, readAnswerLength, readAnswerBytes, bitsTold}
 use Rattle.layout.proofs.Parts.{length-lowBytes, number-unpacks, number-after}
 
-length-noticeBytes : (t : Notice) → length (noticeBytes t) ≡ 8
+pub length-noticeBytes : (t : Notice) → length (noticeBytes t) ≡ 8
 unfolding noticeBytes lowBytes
 length-noticeBytes End = refl
 length-noticeBytes Spoilt = refl

@@ -64,7 +64,7 @@ fn circuit_notice(number: usize, loss: u8, fate: Fate) -> [u8; 8]
 }
 
 // A notice's bytes.
-fn notice_bytes(notice: Notice) -> [u8; 8]
+pub fn notice_bytes(notice: Notice) -> [u8; 8]
     ensures { λ r. ⌜ r ≡ noticeBytes notice ⌝ }
 {
     match notice {

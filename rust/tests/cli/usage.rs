@@ -16,6 +16,8 @@ fn help() {
             );
         }
     }
+    let told = folder.run(&["decode", "--help"]).told();
+    assert!(told.contains("4,294,967,295, which stands for that many or more"));
     let version = concat!("aes18 ", env!("CARGO_PKG_VERSION"), "\n");
     assert_eq!(folder.run(&["--version"]).told(), version);
 }

@@ -1,11 +1,11 @@
 //! `aes18 decode`: what is in filed user bits.
 
+mod counts;
 mod folder;
 mod format;
 mod json;
 mod progress;
 mod text;
-mod totals;
 
 use std::ffi::OsString;
 use std::io::{self, BufWriter, Write};
@@ -17,12 +17,12 @@ use crate::circuits;
 use crate::error::Error;
 use crate::input::Input;
 use crate::output::Unread;
+use counts::Counts;
 use folder::Folder;
 use format::{Format, Told};
 use json::Json;
 use progress::Progress;
 use text::Text;
-use totals::Totals;
 
 pub const HELP: &str = r#"aes18 decode: tell what is in filed user bits
 
@@ -59,7 +59,8 @@ number, from 0, of the first bit behind the closing flag; then
 Messages and information are quoted text with escapes or hex digits, as a plan of
 aes18 encode takes them. At the end stand the totals: for each circuit the packets
 that came, copies not counted; the copies; the packets lost; messages handed over
-and their bytes; orphans; and wrong ones.
+and their bytes; orphans; and wrong ones. Lost, messages, bytes and orphans stop at
+4,294,967,295, which stands for that many or more.
 
 With --json a notice has the members bit and notice; System enable and code; a
 circuit's number, circuit, loss and fate; Whole and System also length, hex and,
@@ -92,7 +93,7 @@ pub fn run(args: Args) -> Result<(), Error> {
     let mut decoder = Decoder {
         receiver,
         store: vec![0; RECEIVER_STORE],
-        totals: Totals::new(&request.circuits),
+        counts: Counts::new(&request.circuits),
         circuits: request.circuits,
         folder,
         format: if request.json { &Json } else { &Text },
@@ -140,7 +141,7 @@ struct Decoder {
     receiver: Receiver,
     store: Vec<u8>,
     circuits: Vec<Circuit>,
-    totals: Totals,
+    counts: Counts,
     folder: Option<Folder>,
     format: &'static dyn Format,
     out: BufWriter<Box<dyn Write>>,
@@ -149,7 +150,7 @@ struct Decoder {
 impl Decoder {
     /// Reads the next bytes' bits and tells their notices.
     fn read(&mut self, bytes: &[u8]) -> Result<(), Error> {
-        let first = self.totals.bits;
+        let first = self.counts.bits;
         let to = 8 * bytes.len() as u64;
         let mut from = 0;
         loop {
@@ -158,7 +159,7 @@ impl Decoder {
                 .read(&mut self.store, bytes, from, to)
                 .map_err(|refusal| Error::Data(refusal.to_string()))?;
             from += read.bits;
-            self.totals.bits = first + from;
+            self.counts.bits = first + from;
             if read.notice == Notice::End {
                 return self.out.flush().map_err(|error| Error::stdout(&error));
             }
@@ -168,7 +169,7 @@ impl Decoder {
 
     /// Counts a notice, files its message and tells it.
     fn tell(&mut self, notice: Notice) -> Result<(), Error> {
-        self.totals.count(&notice);
+        self.counts.count(&notice);
         let message = notice.message(&self.store);
         let file = match (&notice, message, &mut self.folder) {
             (Notice::Circuit { number, .. }, Some(message), Some(folder)) => {
@@ -177,7 +178,7 @@ impl Decoder {
             _ => None,
         };
         let told = Told {
-            bit: self.totals.bits,
+            bit: self.counts.bits,
             notice,
             circuits: &self.circuits,
             bytes: message.or_else(|| notice.information(&self.store)),
@@ -188,10 +189,10 @@ impl Decoder {
             .map_err(|error| Error::stdout(&error))
     }
 
-    /// Tells the totals.
+    /// Tells the counts.
     fn finish(mut self) -> Result<(), Error> {
         self.format
-            .totals(&mut self.out, &self.totals)
+            .counts(&mut self.out, &self.counts)
             .and_then(|()| self.out.flush())
             .map_err(|error| Error::stdout(&error))
     }

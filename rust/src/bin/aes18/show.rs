@@ -59,7 +59,9 @@ Behind a packet's first character = shows how far it goes, or x where it is an o
 Rows that show no other frame than the row before them, and look like it, are only counted.
 
 Behind the picture stand the figures of each kind and the places that went wrong, with their bits: a
-body's bits are those between its flags. Bits and blocks are numbered from 0. With --from and --to the
+body's bits are those between its flags. A circuit's figures are its frames, what became of them, the
+bytes of its whole messages and its packets lost; whole, bytes, orphan and lost stop at 4,294,967,295,
+which stands for that many or more. Bits and blocks are numbered from 0. With --from and --to the
 pass is still read from its first bit; figures and places are of what is shown. Up to seven zeros at
 the end, behind closing ones or a flag, are the last byte's spare bits and are not shown.
 

@@ -1,10 +1,10 @@
-//! The forms in which notices and totals are told.
+//! The forms in which notices and counts are told.
 
 use std::io::{self, Write};
 
 use aes18::{Circuit, Fate, Notice};
 
-use super::totals::Totals;
+use super::counts::Counts;
 
 /// A notice with what belongs to it.
 pub struct Told<'a> {
@@ -24,8 +24,8 @@ pub trait Format {
     /// Tells a notice.
     fn notice(&self, out: &mut dyn Write, told: &Told<'_>) -> io::Result<()>;
 
-    /// Tells the totals, behind the last notice.
-    fn totals(&self, out: &mut dyn Write, totals: &Totals) -> io::Result<()>;
+    /// Tells the counts, behind the last notice.
+    fn counts(&self, out: &mut dyn Write, counts: &Counts) -> io::Result<()>;
 }
 
 /// The specification's name of a fate.

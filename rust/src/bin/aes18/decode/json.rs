@@ -3,13 +3,13 @@
 use std::fmt::{self, Display, Formatter, Write as _};
 use std::io::{self, Write};
 
-use aes18::Notice;
+use aes18::{Figures, Notice};
 
+use super::counts::{Counts, Packets};
 use super::format::{fate_name, Format, Told};
-use super::totals::{CircuitTotals, Totals};
 use crate::quote::{as_text, Hex};
 
-/// An object for each notice, then one with the totals.
+/// An object for each notice, then one with the counts.
 pub struct Json;
 
 impl Format for Json {
@@ -39,17 +39,17 @@ impl Format for Json {
         writeln!(out, "}}")
     }
 
-    fn totals(&self, out: &mut dyn Write, totals: &Totals) -> io::Result<()> {
+    fn counts(&self, out: &mut dyn Write, counts: &Counts) -> io::Result<()> {
         write!(
             out,
             r#"{{"totals":{{"bits":{},"system":{},"spoilt":{},"malformed":{},"elsewhere":{},"circuits":["#,
-            totals.bits, totals.system, totals.spoilt, totals.malformed, totals.elsewhere
+            counts.bits, counts.system, counts.spoilt, counts.malformed, counts.elsewhere
         )?;
-        for (number, circuit) in totals.circuits.iter().enumerate() {
+        for (number, (packets, figures)) in counts.circuits().enumerate() {
             if number > 0 {
                 write!(out, ",")?;
             }
-            write_circuit(out, number, circuit)?;
+            write_circuit(out, number, packets, figures)?;
         }
         writeln!(out, "]}}}}")
     }
@@ -64,19 +64,24 @@ fn write_bytes(out: &mut dyn Write, bytes: &[u8]) -> io::Result<()> {
     }
 }
 
-/// A circuit's totals as an object.
-fn write_circuit(out: &mut dyn Write, number: usize, totals: &CircuitTotals) -> io::Result<()> {
+/// A circuit's counts as an object.
+fn write_circuit(
+    out: &mut dyn Write,
+    number: usize,
+    packets: &Packets,
+    figures: Figures,
+) -> io::Result<()> {
     write!(
         out,
         r#"{{"number":{number},"circuit":"{}","packets":{},"copies":{},"lost":{},"messages":{},"bytes":{},"orphans":{},"wrong":{}}}"#,
-        totals.circuit,
-        totals.packets,
-        totals.copies,
-        totals.lost,
-        totals.messages,
-        totals.bytes,
-        totals.orphans,
-        totals.wrong
+        packets.circuit,
+        packets.came,
+        packets.copies,
+        figures.lost,
+        figures.messages,
+        figures.bytes,
+        figures.orphaned,
+        packets.wrong
     )
 }
 

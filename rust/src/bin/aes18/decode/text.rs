@@ -2,10 +2,10 @@
 
 use std::io::{self, Write};
 
-use aes18::Notice;
+use aes18::{Figures, Notice};
 
+use super::counts::{Counts, Packets};
 use super::format::{fate_name, Format, Told};
-use super::totals::Totals;
 use crate::quote::Quoted;
 
 /// A line for each notice, then a table.
@@ -36,29 +36,70 @@ impl Format for Text {
         writeln!(out)
     }
 
-    fn totals(&self, out: &mut dyn Write, totals: &Totals) -> io::Result<()> {
+    fn counts(&self, out: &mut dyn Write, counts: &Counts) -> io::Result<()> {
         writeln!(
             out,
             "\ncircuit    packets    copies      lost  messages     bytes   orphans     wrong"
         )?;
-        for circuit in &totals.circuits {
-            writeln!(
-                out,
-                "{:7} {:10}{:10}{:10}{:10}{:10}{:10}{:10}",
-                circuit.circuit.to_string(),
-                circuit.packets,
-                circuit.copies,
-                circuit.lost,
-                circuit.messages,
-                circuit.bytes,
-                circuit.orphans,
-                circuit.wrong
-            )?;
+        for (packets, figures) in counts.circuits() {
+            writeln!(out, "{}", row(packets, figures))?;
         }
         writeln!(
             out,
             "bits read {}; System {}, Spoilt {}, Malformed {}, Elsewhere {}",
-            totals.bits, totals.system, totals.spoilt, totals.malformed, totals.elsewhere
+            counts.bits, counts.system, counts.spoilt, counts.malformed, counts.elsewhere
         )
+    }
+}
+
+/// A circuit's counts under the table's columns.
+fn row(packets: &Packets, figures: Figures) -> String {
+    let Packets {
+        circuit,
+        came,
+        copies,
+        wrong,
+    } = packets;
+    let Figures {
+        messages,
+        bytes,
+        lost,
+        orphaned,
+    } = figures;
+    let circuit = circuit.to_string();
+    format!(
+        "{circuit:7} {came:10} {copies:9} {lost:9} {messages:9} {bytes:9} {orphaned:9} {wrong:9}"
+    )
+}
+
+#[cfg(test)]
+mod tests {
+    use aes18::Circuit;
+
+    use super::*;
+
+    /// The highest figures stand apart.
+    #[test]
+    fn highest_figures() {
+        let packets = Packets {
+            circuit: Circuit {
+                address: 0xFE,
+                extension: Some(0xFF),
+            },
+            came: 1,
+            copies: 2,
+            wrong: 3,
+        };
+        let most = u32::MAX;
+        let figures = Figures {
+            messages: most,
+            bytes: most,
+            lost: most,
+            orphaned: most,
+        };
+        assert_eq!(
+            row(&packets, figures),
+            "FE:FF            1         2 4294967295 4294967295 4294967295 4294967295         3"
+        );
     }
 }

@@ -2,6 +2,8 @@
 
 use std::io::{self, Write};
 
+use aes18::Figures;
+
 use super::ink::Ink;
 use super::options::Options;
 use super::paint::Paint;
@@ -19,31 +21,34 @@ pub fn write(out: &mut impl Write, options: &Options, tally: &Tally) -> io::Resu
 
 /// The listed circuits with the figures of their packets.
 fn circuits(out: &mut impl Write, paint: Paint, words: Words<'_>, tally: &Tally) -> io::Result<()> {
-    let columns = "  frames  copies   begun    held   whole  orphan   wrong    lost";
+    let columns = "  frames  copies   begun    held   whole       bytes  orphan   wrong    lost";
     writeln!(out, "\n{:22}{columns}", "")?;
-    for (number, packets) in tally.circuits[..words.circuits.len()].iter().enumerate() {
+    for (number, (packets, figures)) in (0..words.circuits.len()).zip(tally.circuits()) {
         let ink = Ink::Circuit { number, used: true };
         entry(out, paint, ink, &words.circuit(number))?;
-        for figure in figures(packets) {
-            write!(out, "{figure:>8}")?;
-        }
-        writeln!(out)?;
+        writeln!(out, "{}", row(packets, figures))?;
     }
     Ok(())
 }
 
-/// A circuit's figures in the order of the legend's columns.
-fn figures(packets: &Packets) -> [u64; 8] {
-    [
-        packets.frames,
-        packets.copies,
-        packets.begun,
-        packets.held,
-        packets.whole,
-        packets.orphans,
-        packets.wrong,
-        packets.lost,
-    ]
+/// A circuit's figures under the legend's columns.
+fn row(packets: &Packets, figures: Figures) -> String {
+    let Packets {
+        frames,
+        copies,
+        begun,
+        held,
+        wrong,
+    } = packets;
+    let Figures {
+        messages,
+        bytes,
+        lost,
+        orphaned,
+    } = figures;
+    format!(
+        " {frames:7} {copies:7} {begun:7} {held:7} {messages:7} {bytes:11} {orphaned:7} {wrong:7} {lost:7}"
+    )
 }
 
 /// The other kinds, each with its figure.
@@ -92,5 +97,33 @@ fn places(out: &mut impl Write, words: Words<'_>, tally: &Tally) -> io::Result<(
     match tally.wrong - tally.places.len() {
         0 => Ok(()),
         more => writeln!(out, "  and {more} more (--all lists them)"),
+    }
+}
+
+#[cfg(test)]
+mod tests {
+    use super::*;
+
+    /// The highest figures stand apart.
+    #[test]
+    fn highest_figures() {
+        let packets = Packets {
+            frames: 1,
+            copies: 2,
+            begun: 3,
+            held: 4,
+            wrong: 5,
+        };
+        let most = u32::MAX;
+        let figures = Figures {
+            messages: most,
+            bytes: most,
+            lost: most,
+            orphaned: most,
+        };
+        assert_eq!(
+            row(&packets, figures),
+            "       1       2       3       4 4294967295  4294967295 4294967295       5 4294967295"
+        );
     }
 }

@@ -1,26 +1,24 @@
 //! What a picture shows, counted: the legend's figures and the places that went wrong.
 
-use aes18::{Fate, Notice};
+use aes18::{Fate, Figures, Notice, Totals};
 
 use super::extents::{Kind, Stretch};
 
-/// The figures of a listed circuit, in packets.
+/// What the totals do not have of a listed circuit, in packets.
 #[derive(Clone, Copy, Debug, Default)]
 pub struct Packets {
     pub frames: u64,
     pub copies: u64,
     pub begun: u64,
     pub held: u64,
-    pub whole: u64,
-    pub orphans: u64,
     pub wrong: u64,
-    pub lost: u64,
 }
 
 /// The figures of all that is shown.
 #[derive(Debug, Default)]
 pub struct Tally {
-    pub circuits: [Packets; 4],
+    circuits: [Packets; 4],
+    totals: Totals,
     pub system: u64,
     pub elsewhere: u64,
     pub malformed: u64,
@@ -57,30 +55,41 @@ impl Tally {
             Kind::Idle => self.idle += bits,
             Kind::Void => self.void += bits,
             Kind::Flag => self.flags += 1,
-            Kind::Body(Notice::Spoilt | Notice::End) => self.spoilt += 1,
-            Kind::Body(Notice::Malformed) => self.malformed += 1,
-            Kind::Body(Notice::System { .. }) => self.system += 1,
-            Kind::Body(Notice::Elsewhere) => self.elsewhere += 1,
-            Kind::Body(Notice::Circuit { number, loss, fate }) => {
+            Kind::Body(notice) => self.count_notice(&notice),
+        }
+    }
+
+    fn count_notice(&mut self, notice: &Notice) {
+        self.totals.note(notice);
+        match *notice {
+            Notice::Spoilt | Notice::End => self.spoilt += 1,
+            Notice::Malformed => self.malformed += 1,
+            Notice::System { .. } => self.system += 1,
+            Notice::Elsewhere => self.elsewhere += 1,
+            Notice::Circuit { number, fate, .. } => {
                 if let Some(packets) = self.circuits.get_mut(number) {
-                    packets.count(loss, fate);
+                    packets.count(fate);
                 }
             }
         }
     }
+
+    /// The packets of each circuit number and its figures in the totals.
+    pub fn circuits(&self) -> impl Iterator<Item = (&Packets, Figures)> {
+        let figures = |number| self.totals.circuit(number).unwrap_or_default();
+        self.circuits.iter().zip((0..).map(figures))
+    }
 }
 
 impl Packets {
-    fn count(&mut self, loss: u8, fate: Fate) {
+    fn count(&mut self, fate: Fate) {
         self.frames += 1;
-        self.lost += u64::from(loss);
         match fate {
             Fate::Copy => self.copies += 1,
             Fate::Begun => self.begun += 1,
             Fate::Held => self.held += 1,
-            Fate::Whole(_) => self.whole += 1,
-            Fate::Orphan => self.orphans += 1,
             Fate::Wrong => self.wrong += 1,
+            Fate::Whole(_) | Fate::Orphan => {}
         }
     }
 }

@@ -2,13 +2,15 @@
 
 use std::io::{self, Write};
 
+use aes18::Figures;
+
 use super::super::ink::Ink;
 use super::super::tally::{Packets, Tally};
 use super::super::words::Words;
 use super::sheet::{EDGE, LEFT, ROW, TOP};
 
 /// Where the legend's columns are.
-const COLUMNS: [f64; 3] = [EDGE, EDGE + 600.0, EDGE + 920.0];
+const COLUMNS: [f64; 3] = [EDGE, EDGE + 680.0, EDGE + 980.0];
 /// Where the legend's first line is, and from a line to the next.
 const LEGEND: usize = 66;
 const LINE: usize = 20;
@@ -45,9 +47,9 @@ fn extent(out: &mut impl Write, words: Words<'_>, tally: &Tally) -> io::Result<(
 
 /// The legend's columns: the circuits, the other bodies, the rest.
 fn columns(words: Words<'_>, tally: &Tally) -> [Vec<(Ink, String)>; 3] {
-    let circuits = tally.circuits[..words.circuits.len()].iter().enumerate();
-    let circuits = circuits.map(|(number, packets)| {
-        let text = format!("{}: {}", words.circuit(number), figures(packets));
+    let circuits = (0..words.circuits.len()).zip(tally.circuits());
+    let circuits = circuits.map(|(number, (packets, figures))| {
+        let text = format!("{}: {}", words.circuit(number), told(packets, figures));
         (Ink::Circuit { number, used: true }, text)
     });
     [
@@ -81,16 +83,17 @@ fn columns(words: Words<'_>, tally: &Tally) -> [Vec<(Ink, String)>; 3] {
 }
 
 /// A circuit's figures, as far as they are not 0.
-fn figures(packets: &Packets) -> String {
-    let figures = [
+fn told(packets: &Packets, figures: Figures) -> String {
+    let named = [
         (packets.copies, "copies"),
-        (packets.whole, "whole"),
-        (packets.orphans, "orphan"),
+        (figures.messages.into(), "whole"),
+        (figures.bytes.into(), "bytes"),
+        (figures.orphaned.into(), "orphan"),
         (packets.wrong, "wrong"),
-        (packets.lost, "lost"),
+        (figures.lost.into(), "lost"),
     ];
     let mut text = format!("frames {}", packets.frames);
-    for (figure, name) in figures.iter().filter(|(figure, _)| *figure > 0) {
+    for (figure, name) in named.iter().filter(|(figure, _)| *figure > 0) {
         text.push_str(&format!(", {name} {figure}"));
     }
     text

@@ -1,0 +1,5 @@
+-- The laws of `totals_layout`: the record and its bytes determine each other, and an answer's bytes and its notice.
+pub mod TotalsRoundTrip
+pub mod Same
+pub mod NoticeReadBack
+pub mod Example

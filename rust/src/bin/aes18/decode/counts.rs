@@ -1,0 +1,78 @@
+//! What was read in all.
+
+use aes18::{Circuit, Fate, Figures, Notice, Totals};
+
+/// Counts over all notices.
+pub struct Counts {
+    /// Bits read.
+    pub bits: u64,
+    pub system: u64,
+    pub spoilt: u64,
+    pub malformed: u64,
+    pub elsewhere: u64,
+    /// What the totals do not have of each circuit, by number.
+    circuits: Vec<Packets>,
+    totals: Totals,
+}
+
+/// The packets of a circuit.
+pub struct Packets {
+    pub circuit: Circuit,
+    /// Packets that came, copies not counted.
+    pub came: u64,
+    pub copies: u64,
+    pub wrong: u64,
+}
+
+impl Counts {
+    /// Nothing read yet at these circuits.
+    pub fn new(circuits: &[Circuit]) -> Counts {
+        Counts {
+            bits: 0,
+            system: 0,
+            spoilt: 0,
+            malformed: 0,
+            elsewhere: 0,
+            circuits: circuits.iter().copied().map(Packets::new).collect(),
+            totals: Totals::empty(),
+        }
+    }
+
+    /// Counts a notice.
+    pub fn count(&mut self, notice: &Notice) {
+        self.totals.note(notice);
+        match *notice {
+            Notice::End => {}
+            Notice::Spoilt => self.spoilt += 1,
+            Notice::Malformed => self.malformed += 1,
+            Notice::System { .. } => self.system += 1,
+            Notice::Elsewhere => self.elsewhere += 1,
+            Notice::Circuit { number, fate, .. } => self.circuits[number].count(fate),
+        }
+    }
+
+    /// The packets of each circuit, by number, and its figures in the totals.
+    pub fn circuits(&self) -> impl Iterator<Item = (&Packets, Figures)> {
+        let figures = |number| self.totals.circuit(number).unwrap_or_default();
+        self.circuits.iter().zip((0..).map(figures))
+    }
+}
+
+impl Packets {
+    fn new(circuit: Circuit) -> Packets {
+        Packets {
+            circuit,
+            came: 0,
+            copies: 0,
+            wrong: 0,
+        }
+    }
+
+    fn count(&mut self, fate: Fate) {
+        match fate {
+            Fate::Copy => self.copies += 1,
+            _ => self.came += 1,
+        }
+        self.wrong += u64::from(fate == Fate::Wrong);
+    }
+}
