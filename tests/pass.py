@@ -157,11 +157,12 @@ def read(out, bits):
 
 
 def print_sums(out, told, sent, bits):
-    out.append("circuit       Copy   Begun    Held  Orphan   Wrong  losses   Whole    sent")
+    out.append("circuit       Copy   Begun    Held  Orphan   Wrong  losses   Whole   bytes    sent")
     for number, name in enumerate(["7e", "33", "10", "02 07"]):
         mine = [t for t in told if t[0] == number]
         cases = [sum(1 for t in mine if t[2] == case) for case in CASES]
-        row = cases[:5] + [sum(t[1] for t in mine), cases[5], len(sent[SENDERS.index(RECEIVERS[number])])]
+        size = sum(len(t[3]) for t in mine if t[2] == "Whole")
+        row = cases[:5] + [sum(t[1] for t in mine), cases[5], size, len(sent[SENDERS.index(RECEIVERS[number])])]
         out.append("%-10s" % ("%d: %s" % (number, name)) + "".join("%8d" % n for n in row))
     words = [t if isinstance(t, str) else "" for t in told]
     counts = ["%s %d" % (case, sum(1 for w in words if w.startswith(case))) for case in ("System", "Spoilt", "Malformed", "Elsewhere")]

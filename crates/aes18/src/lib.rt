@@ -1,4 +1,5 @@
-// The AES18 user-bit channel for C and Rust: the calls of document 01 over records and answers laid out in bytes (include/aes18.h).
+// The AES18 user-bit channel for C and Rust: the calls of document 01, and pass totals (document 02, ask 1), over records and answers laid out in bytes
+// (include/aes18.h).
 
 use layout::answer_number;
 use layout::clipped;

@@ -1,12 +1,14 @@
 -- The bytes lent carry a record of pass totals: noting an answer leaves in them the record after its notice, and leaves what stands behind the record.
 use Prim.Native.Nat.{ℕ, _≤_, _<_}
+use mathlib.Core.Bool.{Bool, true, false, cond, _||_}
 use mathlib.Core.List.{List, [], _++_}
 use mathlib.Core.Path.{_≡_, refl, sym, ap, _∙_}
 use native.Mathlib.Omega.{arith}
-use borrow.Author.Tests.{le-ltb}
-use lib.ListN.{length, drop, length-append}
-use lib.Seq.{sets, drop-at, length-sets}
-use lib.Dec.{ltb}
+use borrow.Author.Tests.{le-ltb, ltb-false}
+use lib.ListN.{length, take, drop, length-append, take-append-drop}
+use lib.Seq.{sets, drop-at, length-sets, length-take-le}
+use lib.Dec.{ltb, eqb}
+use Rattle.bits.specs.Bits.{Bytes}
 use Rattle.bits.proofs.Lists.{sets-behind}
 use Rattle.packet.proofs.Choices.{cond-either}
 use Rattle.notices.specs.declared.Fate.{Fate}
@@ -16,19 +18,19 @@ use Rattle.notices.specs.declared.Notice.the-variants.{End, Spoilt, Malformed, 
 use Rattle.notices.proofs.NoticesInRange.{FateInRange, NoticeInRange}
 use Rattle.packet.specs.Lists.{AllAre}
 use Rattle.packet.specs.Messages.{longest}
-use Rattle.layout.specs.Layout.{lowBytes}
 use Rattle.layout.specs.Fits.{Four}
 use Rattle.receiver_layout.specs.Answers.{readAnswerLength, wholeLength, readAnswerBytes}
 use Rattle.receiver_layout.proofs.AnswersRead.{length-readAnswerBytes}
 use Rattle.totals.specs.declared.Figures.{Figures}
 use Rattle.totals.specs.declared.Totals.{Totals}
 use Rattle.totals.specs.Figures.{noFigures, most, capped}
-use Rattle.totals.specs.Totals.{empty, noted}
-use Rattle.totals_layout.specs.TotalsBytes.{totalsLength, figuresBytes, totalsBytes}
+use Rattle.totals.specs.Totals.{emptyTotals, noted}
+use Rattle.totals_layout.specs.TotalsBytes.{totalsLength, totalsBytes, totalsIn}
 use Rattle.totals_layout.specs.NoticeSaid.{noticeSaid, notedSaid}
 use Rattle.totals_layout.specs.Fits.{FiguresFit, TotalsFit, NoticeFits}
-use Rattle.totals_layout.proofs.TotalsRoundTrip.{totals-unpack}
+use Rattle.totals_layout.proofs.TotalsRoundTrip.{length-totalsBytes, totals-unpack, totals-pack}
 use Rattle.totals_layout.proofs.NoticeReadBack.{notice-read-back}
+use Rattle.aes18.specs.Room.{noRoom}
 use Rattle.aes18.specs.TotalsCalls.{noteAnswered, noteRecord}
 use Rattle.exported.proofs.Fitting.{Four-set}
 
@@ -38,8 +40,8 @@ capped-fit : (f : Figures) → FiguresFit (capped f)
 unfolding capped most
 capped-fit f = record { messages = omega arith; bytes = omega arith; lost = omega arith; orphaned = omega arith }
 
-pub empty-fit : TotalsFit empty
-unfolding TotalsFit empty noFigures AllAre
+pub empty-fit : TotalsFit emptyTotals
+unfolding TotalsFit emptyTotals noFigures AllAre
 empty-fit =
     let none : FiguresFit noFigures = record { messages = omega arith; bytes = omega arith; lost = omega arith; orphaned = omega arith } in
     record { four = refl; each = (none, (none, (none, (none, tt)))) }
@@ -76,10 +78,6 @@ notice-fits (Circuit c loss fate) h = (omega (arith, h .number), fate-fits fate 
 
 -- ---- noting
 
-length-totalsBytes : (t : Totals) → length (totalsBytes t) ≡ totalsLength
-unfolding totalsBytes figuresBytes lowBytes
-length-totalsBytes t = refl
-
 module _ (t : Totals) (fits : TotalsFit t) (rest : List ℕ) where
   note-carried : (answer : List ℕ) → readAnswerLength ≤ length answer
       → noteRecord (totalsBytes t ++ rest) answer ≡ totalsBytes (notedSaid t (noticeSaid answer)) ++ rest
@@ -104,3 +102,20 @@ module _ (t : Totals) (fits : TotalsFit t) (rest : List ℕ) where
       note-carried (sets answer 0 told) again
       ∙ ap (λ said. totalsBytes (notedSaid t said) ++ rest)
       (ap noticeSaid (sets-behind [] answer told inside) ∙ notice-read-back n (notice-fits n range) bits (drop (length told) answer))
+
+-- ---- an answer that counts nothing
+
+-- every byte stays as it was
+pub note-left : (bytes answer : List ℕ) → Bytes bytes → notedSaid (totalsIn bytes) (noticeSaid answer) ≡ totalsIn bytes → noteRecord bytes answer ≡ bytes
+unfolding noteRecord noteAnswered noRoom
+note-left bytes answer are none = go (ltb (length bytes) totalsLength) refl (ltb (length answer) readAnswerLength)
+  where
+    go : (b : Bool) → ltb (length bytes) totalsLength ≡ b → (a : Bool)
+        → cond (eqb (cond (b || a) 255 0) 0) (sets bytes 0 (totalsBytes (notedSaid (totalsIn bytes) (noticeSaid answer)))) bytes ≡ bytes
+    go true short a = refl
+    go false long true = refl
+    go false long false =
+        let room : totalsLength ≤ length bytes = ltb-false (length bytes) totalsLength long in
+        let front : length (take totalsLength bytes) ≡ totalsLength = length-take-le totalsLength bytes room in
+        rw (none, totals-pack bytes are room)
+        (sets-behind [] bytes (take totalsLength bytes) (omega (arith, front, room)) ∙ rw front (take-append-drop totalsLength bytes))

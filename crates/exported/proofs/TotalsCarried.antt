@@ -16,7 +16,7 @@ use Rattle.notices.specs.declared.Notice.{Notice}
 use Rattle.receiver_layout.specs.ReceiverBytes.{receiverLength}
 use Rattle.receiver_layout.specs.Answers.{readAnswerLength}
 use Rattle.totals.specs.declared.Totals.{Totals}
-use Rattle.totals.specs.Totals.{empty, noted, notedAll}
+use Rattle.totals.specs.Totals.{emptyTotals, noted, notedAll}
 use Rattle.totals_layout.specs.TotalsBytes.{totalsLength, totalsBytes}
 use Rattle.totals_layout.specs.Fits.{TotalsFit}
 use Rattle.totals_layout.proofs.Example.{totals-empty}
@@ -40,12 +40,12 @@ module _ (s : ReceiverEnd) (c : ReadCall) where
   number = readRefusal (s .receiver) (s .store) (c .bytes) (c .from) (c .to)
 
   -- its notice, where it is accepted
-  heard : Notice
-  heard = readBy (readScan (s .receiver) (c .bytes) (c .from) (c .to)) (s .receiver) (s .store) .notice
+  noticeOfRead : Notice
+  noticeOfRead = readBy (readScan (s .receiver) (c .bytes) (c .from) (c .to)) (s .receiver) (s .store) .notice
 
   told-accepted : number ≡ 0
-      → told s c ≡ record { notice = heard; store = storeAfterRead (s .receiver) (s .store) (c .bytes) (c .from) (c .to) } ∷ []
-  unfolding number heard told answerToRead readOf reportOf
+      → told s c ≡ record { notice = noticeOfRead; store = storeAfterRead (s .receiver) (s .store) (c .bytes) (c .from) (c .to) } ∷ []
+  unfolding number noticeOfRead told answerToRead readOf reportOf
   told-accepted zero = rw zero
 
   told-refused : eqb number 0 ≡ false → told s c ≡ []
@@ -63,14 +63,14 @@ module _ (bytes : List ℕ) (room : receiverLength ≤ length bytes) (e : Lent) 
 
   -- an accepted call's notice is noted
   accepted-noted : readHasRoom c ≡ true → number s (c .call) ≡ 0 → AllAre ReportInRange (told s (c .call))
-      → notedRead e c (totalsBytes t ++ rest) ≡ totalsBytes (noted t (heard s (c .call))) ++ rest
-  unfolding notedRead readHasRoom heard AllAre
+      → notedRead e c (totalsBytes t ++ rest) ≡ totalsBytes (noted t (noticeOfRead s (c .call))) ++ rest
+  unfolding notedRead readHasRoom noticeOfRead AllAre
   accepted-noted has zero range =
       let accepted = answered true has ∙ zero in
       let long : readAnswerLength ≤ length (c .answer) = leb-true readAnswerLength (length (c .answer)) has in
       let in-range = subst (AllAre ReportInRange) (told-accepted s (c .call) zero) range .0 .notice in
       rw (accepted, call-answer bytes room e s h c accepted)
-      (answer-noted t fits rest (heard s (c .call)) in-range
+      (answer-noted t fits rest (noticeOfRead s (c .call)) in-range
       (bitsRead (s .receiver) (s .store) (c .call .bytes) (c .call .from) (c .call .to)) (c .answer) long)
 
   -- a refused one leaves the record
@@ -146,8 +146,8 @@ module _ (bytes : List ℕ) (room : receiverLength ≤ length bytes) (rest : Lis
   -- from a listing and a record of zeros on, with any bytes behind the record
   pub totals-carried : Bytes bytes → (list : List ℕ) → Bytes list → (store : List ℕ) (cs : List LentRead)
       → notedReads (record { bytes = listRecord bytes list; store = store }) cs (replicate totalsLength 0 ++ rest)
-      ≡ totalsBytes (notedAll empty (noticesOf (toldByReads (freshReceiverEnd list store) (readsOf cs)))) ++ rest
+      ≡ totalsBytes (notedAll emptyTotals (noticesOf (toldByReads (freshReceiverEnd list store) (readsOf cs)))) ++ rest
   totals-carried are list listed store cs =
       ap (λ zeros. notedReads (record { bytes = listRecord bytes list; store = store }) cs (zeros ++ rest)) (sym totals-empty)
-      ∙ reads-noted cs _ (freshReceiverEnd list store) (record { receiver = list-carries bytes are room list listed; store = refl }) empty empty-fit
+      ∙ reads-noted cs _ (freshReceiverEnd list store) (record { receiver = list-carries bytes are room list listed; store = refl }) emptyTotals empty-fit
       (told-in-range list store (readsOf cs))

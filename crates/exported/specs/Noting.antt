@@ -1,5 +1,6 @@
 -- A record of pass totals in bytes, kept "beside the receiver" and "brought up to date with each notice" (document 02, ask 1): the answer of each exported
--- reading call is noted there where the call answers 0.
+-- reading call is noted there where the call answers 0. `totals-carried` says that these bytes are then the record over all notices that document 01's
+-- calls tell.
 use Prim.Native.Nat.{ℕ}
 use mathlib.Core.Bool.{cond}
 use mathlib.Core.List.{List, [], _∷_}

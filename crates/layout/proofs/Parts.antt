@@ -1,4 +1,4 @@
--- Laws of what both ends' layouts share: bytes and numbers, arrays of four, circuits, and bytes that are read one by one.
+-- Laws of what the layouts share: bytes and numbers, arrays of four, circuits, and bytes that are read one by one.
 use mathlib.Core.Path.{_≡_, refl, sym, _∙_}
 use Prim.Native.Nat.{ℕ, zero, suc, _+_, _*_, _/_, _%_, _^_, _≤_, _<_}
 use native.Mathlib.Nat.{add-zero}

@@ -1,4 +1,4 @@
--- What both ends' layouts share: numbers of several bytes and the circuits of a record.
+-- What the layouts share: numbers of several bytes and the circuits of a record.
 use Prim.Native.Nat.{ℕ, zero, suc, _+_, _*_, _/_, _%_}
 use mathlib.Core.List.{List, [], _∷_, _++_}
 use lib.ListN.{getD}

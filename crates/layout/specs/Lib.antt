@@ -1,3 +1,3 @@
--- The definitions of `layout`: what both ends' records share in bytes.
+-- The definitions of `layout`: what records share in bytes.
 pub mod Layout
 pub mod Fits

@@ -1,4 +1,4 @@
-// What both ends' records and answers share in bytes: numbers of several bytes and the circuits of a record.
+// What records and answers share in bytes: numbers of several bytes and the circuits of a record.
 
 ghost use mathlib.Core.Path.{_≡_};
 ghost use Prim.Native.Nat.{_+_, _%_, _≤_, min};

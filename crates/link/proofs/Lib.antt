@@ -15,7 +15,7 @@ pub mod Losses
 pub mod MessageParts
 pub mod Reassembly
 pub mod ClaimHolds
-pub mod PassTotals
+pub mod Demand3Totals
 pub mod BodiesOfBlocks
 pub mod DroppedBlocks
 pub mod ReplacedByOnes

@@ -5,7 +5,7 @@ use mathlib.Core.List.{List}
 use mathlib.Core.Option.{Option, none, some}
 use mathlib.Core.Path.{_≡_, refl}
 use native.Mathlib.Omega.{arith}
-use borrow.Author.Tests.{eqb-true}
+use borrow.Author.Tests.{eqb-true, eqb-false}
 use lib.ListN.{length, take}
 use lib.Dec.{ltb, eqb}
 use Rattle.bits.specs.Bits.{Bytes}
@@ -14,7 +14,7 @@ use Rattle.packet.specs.declared.Circuits.{Circuits}
 use Rattle.packet.specs.Circuits.{listed, numberFrom}
 use Rattle.packet.specs.Messages.{longest}
 use Rattle.packet.proofs.Choices.{cond-either}
-use Rattle.parsing.specs.Packets.{address, link, segmentIn, circuitIn, enable, malformed}
+use Rattle.parsing.specs.Packets.{address, link, index, segmentIn, circuitIn, enable, malformed}
 use Rattle.parsing.specs.Headers.{headerLength, messageLength, wrongHeader}
 use Rattle.parsing.proofs.PacketParts.{right-code, right-information}
 use Rattle.parsing.proofs.HeaderParts.{right-length, segment-second}
@@ -43,7 +43,7 @@ FateInRange Wrong = Unit {0}
 
 pub record CircuitInRange (c l : ℕ) (f : Fate) : Type 0 where
   pub number : c < 4
-  pub loss : l ≤ 7
+  pub loss : l ≤ 6
   pub fate : FateInRange f
 
 pub record SystemInRange (e c n : ℕ) : Type 0 where
@@ -62,11 +62,12 @@ NoticeInRange (Circuit c loss fate) = CircuitInRange c loss fate
 -- ---- a circuit's packet
 
 module _ (t : Slot) (p : List ℕ) where
-  loss-in-range : cond (isCopy t p) 0 (lossOf t p) ≤ 7
-  unfolding lossOf
-  loss-in-range =
-      cond-either (λ (n : ℕ). n ≤ 7) (isCopy t p) _ _ (λ _. omega arith)
-      (λ _. cond-either (λ (n : ℕ). n ≤ 7) (t .seen) _ _ (λ _. omega arith) (λ _. omega arith))
+  loss-in-range : slotInRange t ≡ true → cond (isCopy t p) 0 (lossOf t p) ≤ 6
+  unfolding lossOf isCopy index
+  loss-in-range range =
+      cond-either (λ (n : ℕ). n ≤ 6) (isCopy t p) _ _ (λ _. omega arith)
+      (λ new. cond-either (λ (n : ℕ). n ≤ 6) (t .seen) _ _
+      (λ seen. let other = eqb-false (index p) (t .last) (rw seen at new) in omega (arith, other, slotInRange-facts t range .last)) (λ _. omega arith))
 
   module _ (bytes : Bytes p) (range : slotInRange t ≡ true) where
     -- a message in one packet has the length that the header holds
@@ -111,7 +112,7 @@ module _ (cs : Circuits) (slots : List Slot) (range : slotsInRange (take (cs .co
   circuit-in-range none known = tt
   circuit-in-range (some c) known =
       let t : Slot = slotAt slots c in
-      record { number = known c refl .0; loss = loss-in-range t p; fate = fate-in-range t p bytes (known c refl .1) }
+      record { number = known c refl .0; loss = loss-in-range t p (known c refl .1); fate = fate-in-range t p bytes (known c refl .1) }
 
   pub heard-notice-in-range : NoticeInRange (heard cs slots p .notice)
   unfolding heard NoticeInRange

@@ -14,6 +14,7 @@ use receiver::Receiver;
 use sender::Made;
 use sender::Making;
 use sender::blocks::make_block;
+use totals::Totals;
 ghost use mathlib.Core.Path.{_≡_};
 ghost use Prim.Native.Nat.{_*_, _≤_, _<_};
 ghost use lib.ListN.{length};
@@ -198,17 +199,17 @@ fn tear(joined: &mut [u8])
     print(b"bit 13450 is turned over\n");
 }
 
-// A count grows. Each circuit has eight places, of which seven are used: Copy, Begun, Held, Orphan, Wrong, losses and Whole. From place 32 on
-// come System, Spoilt, Malformed, Elsewhere and the bits read.
-fn count(counts: &mut [usize; 40], place: usize, more: usize)
-    requires { ⌜ place < 40 ⌝ }
+// A count grows, of what the totals do not have. Each circuit has four places: Copy, Begun, Held and Wrong. From place 16 on come System,
+// Spoilt, Malformed, Elsewhere and the bits read.
+fn count(counts: &mut [usize; 21], place: usize, more: usize)
+    requires { ⌜ place < 21 ⌝ }
 {
     counts[place] = std::num::wrapping_add_usize(counts[place], more);
 }
 
 // A case of a notice is printed and counted.
-fn note(counts: &mut [usize; 40], place: usize, case: &[u8])
-    requires { ⌜ place < 40 ⌝ }
+fn print_case(counts: &mut [usize; 21], place: usize, case: &[u8])
+    requires { ⌜ place < 21 ⌝ }
 {
     count(counts, place, 1);
     print(case);
@@ -234,7 +235,7 @@ fn print_message(store: &[u8], number: usize, size: usize)
 }
 
 // A notice that names a circuit. No number is above 3.
-fn note_circuit(counts: &mut [usize; 40], store: &[u8], number: usize, loss: u8, fate: Fate)
+fn print_circuit(counts: &mut [usize; 21], store: &[u8], number: usize, loss: u8, fate: Fate)
     requires { ⌜ length (now store) ≡ 16400 ⌝ }
 {
     if 3 < number {
@@ -243,29 +244,30 @@ fn note_circuit(counts: &mut [usize; 40], store: &[u8], number: usize, loss: u8,
     tell(b"circuit ", number);
     tell(b", loss ", loss as usize);
     print(b", ");
-    let row = 8 * number;
-    count(counts, row + 5, loss as usize);
+    let row = 4 * number;
     match fate {
-        Fate::Copy => note(counts, row, b"Copy"),
-        Fate::Begun => note(counts, row + 1, b"Begun"),
-        Fate::Held => note(counts, row + 2, b"Held"),
-        Fate::Orphan => note(counts, row + 3, b"Orphan"),
-        Fate::Wrong => note(counts, row + 4, b"Wrong"),
+        Fate::Copy => print_case(counts, row, b"Copy"),
+        Fate::Begun => print_case(counts, row + 1, b"Begun"),
+        Fate::Held => print_case(counts, row + 2, b"Held"),
+        Fate::Orphan => {
+            print(b"Orphan");
+        }
+        Fate::Wrong => print_case(counts, row + 3, b"Wrong"),
         Fate::Whole(size) => {
-            note(counts, row + 6, b"Whole");
+            print(b"Whole");
             print_message(store, number, size);
         }
     }
 }
 
 // A notice that tells a system packet, with its information. None has more than 16 bytes.
-fn note_system(counts: &mut [usize; 40], store: &[u8], enable: u8, code: u8, size: usize)
+fn print_system(counts: &mut [usize; 21], store: &[u8], enable: u8, code: u8, size: usize)
     requires { ⌜ length (now store) ≡ 16400 ⌝ }
 {
     if 16 < size {
         return;
     }
-    note(counts, 32, b"System");
+    print_case(counts, 16, b"System");
     tell(b", enable bits ", enable as usize);
     tell(b", code ", code as usize);
     tell(b", length ", size);
@@ -276,7 +278,7 @@ fn note_system(counts: &mut [usize; 40], store: &[u8], enable: u8, code: u8, siz
 }
 
 // A notice, told after so many bits. The end of a cut is none to print.
-fn note_all(counts: &mut [usize; 40], store: &[u8], at: usize, notice: Notice)
+fn print_notice(counts: &mut [usize; 21], store: &[u8], at: usize, notice: Notice)
     requires { ⌜ length (now store) ≡ 16400 ⌝ }
 {
     if let Notice::End = notice {
@@ -291,27 +293,34 @@ fn note_all(counts: &mut [usize; 40], store: &[u8], at: usize, notice: Notice)
             enable,
             code,
             length,
-        } => note_system(counts, store, enable, code, length),
-        Notice::Spoilt => note(counts, 33, b"Spoilt"),
-        Notice::Malformed => note(counts, 34, b"Malformed"),
-        Notice::Elsewhere => note(counts, 35, b"Elsewhere"),
-        Notice::Circuit { number, loss, fate } => note_circuit(counts, store, number, loss, fate),
+        } => print_system(counts, store, enable, code, length),
+        Notice::Spoilt => print_case(counts, 17, b"Spoilt"),
+        Notice::Malformed => print_case(counts, 18, b"Malformed"),
+        Notice::Elsewhere => print_case(counts, 19, b"Elsewhere"),
+        Notice::Circuit { number, loss, fate } => print_circuit(counts, store, number, loss, fate),
     }
     print(b"\n");
 }
 
+// The receiving end: the receiver, and the totals of what it told.
+struct Station {
+    receiver: Receiver,
+    totals: Totals,
+}
+
 // A cut is read, from one notice to the next.
 fn read_cut(
-    receiver: Receiver,
+    station: Station,
     store: &mut [u8],
     joined: &[u8],
-    counts: &mut [usize; 40],
+    counts: &mut [usize; 21],
     from: usize,
     to: usize,
-) -> Receiver
+) -> Station
     requires { ⌜ length (now store) ≡ 16400 ⌝ }
 {
-    let mut r = receiver;
+    let mut r = station.receiver;
+    let mut totals = station.totals;
     let mut at = from;
     while at < to {
         let reading = r.read(store, joined, at, to);
@@ -321,10 +330,14 @@ fn read_cut(
         };
         r = reading.receiver;
         at += reading.bits;
-        count(counts, 36, reading.bits);
-        note_all(counts, store, at, notice);
+        count(counts, 20, reading.bits);
+        totals = totals.note(notice);
+        print_notice(counts, store, at, notice);
     }
-    r
+    Station {
+        receiver: r,
+        totals,
+    }
 }
 
 // Where a cut ends: it has 1 to 200 bits.
@@ -340,44 +353,53 @@ fn cut_end(from: usize) -> usize
 }
 
 // All bits are read, cut by cut.
-fn receive(store: &mut [u8], joined: &[u8], counts: &mut [usize; 40])
+fn receive(store: &mut [u8], joined: &[u8], counts: &mut [usize; 21]) -> Totals
     requires { ⌜ length (now store) ≡ 16400 ⌝ }
 {
     let listed = Receiver::list(b"\x7e\x00\x00\x33\x00\x00\x10\x00\x00\x02\x01\x07");
-    let mut r = listed.receiver;
+    let receiver = listed.receiver;
+    let mut station = Station {
+        receiver,
+        totals: Totals::empty(),
+    };
     let mut at = 0;
     while at < 14400 {
         let end = cut_end(at);
-        r = read_cut(r, store, joined, counts, at, end);
+        station = read_cut(station, store, joined, counts, at, end);
         at = end;
     }
+    station.totals
 }
 
 // A circuit's line of the table.
-fn print_row(name: &[u8], counts: &[usize; 40], row: usize, sent: usize)
+fn print_row(name: &[u8], counts: &[usize; 21], totals: Totals, row: usize, sent: usize)
     requires { ⌜ row < 4 ⌝ }
 {
+    let figures = totals.circuits[row];
     print(name);
-    let mut k = 0;
-    while k < 7 {
-        print_right(counts[8 * row + k], 8);
-        k += 1;
-    }
+    print_right(counts[4 * row], 8);
+    print_right(counts[4 * row + 1], 8);
+    print_right(counts[4 * row + 2], 8);
+    print_right(figures.orphaned as usize, 8);
+    print_right(counts[4 * row + 3], 8);
+    print_right(figures.lost as usize, 8);
+    print_right(figures.messages as usize, 8);
+    print_right(figures.bytes as usize, 8);
     print_right(sent, 8);
     print(b"\n");
 }
 
-fn print_sums(counts: &[usize; 40], taken: [usize; 4]) {
-    print(b"circuit       Copy   Begun    Held  Orphan   Wrong  losses   Whole    sent\n");
-    print_row(b"0: 7e     ", counts, 0, taken[2]);
-    print_row(b"1: 33     ", counts, 1, taken[3]);
-    print_row(b"2: 10     ", counts, 2, taken[0]);
-    print_row(b"3: 02 07  ", counts, 3, taken[1]);
-    tell(b"bits read: ", counts[36]);
-    tell(b"; System ", counts[32]);
-    tell(b", Spoilt ", counts[33]);
-    tell(b", Malformed ", counts[34]);
-    tell(b", Elsewhere ", counts[35]);
+fn print_sums(counts: &[usize; 21], totals: Totals, taken: [usize; 4]) {
+    print(b"circuit       Copy   Begun    Held  Orphan   Wrong  losses   Whole   bytes    sent\n");
+    print_row(b"0: 7e     ", counts, totals, 0, taken[2]);
+    print_row(b"1: 33     ", counts, totals, 1, taken[3]);
+    print_row(b"2: 10     ", counts, totals, 2, taken[0]);
+    print_row(b"3: 02 07  ", counts, totals, 3, taken[1]);
+    tell(b"bits read: ", counts[20]);
+    tell(b"; System ", counts[16]);
+    tell(b", Spoilt ", counts[17]);
+    tell(b", Malformed ", counts[18]);
+    tell(b", Elsewhere ", counts[19]);
     print(b"\n");
 }
 
@@ -393,8 +415,8 @@ fn main() {
     tear(&mut joined);
     print(b"\nReading, in cuts of 1 to 200 bits\n");
     let mut heard = [0u8; Receiver::STORE];
-    let mut counts = [0usize; 40];
-    receive(&mut heard, &joined, &mut counts);
+    let mut counts = [0usize; 21];
+    let totals = receive(&mut heard, &joined, &mut counts);
     print(b"\nSums\n");
-    print_sums(&counts, taken);
+    print_sums(&counts, totals, taken);
 }

@@ -1,4 +1,4 @@
--- What a receiver made by calls tells is in range: circuit numbers below 4, losses of at most 7, whole messages of at most 4,094 bytes, a system packet's
+-- What a receiver made by calls tells is in range: circuit numbers below 4, losses of at most 6, whole messages of at most 4,094 bytes, a system packet's
 -- enable bits, code and length; and the store with which it is told is as long as reading wants it.
 use Prim.Native.Nat.{ℕ, _≤_}
 use mathlib.Core.Bool.{true}

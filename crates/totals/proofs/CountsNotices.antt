@@ -13,7 +13,7 @@ use Rattle.notices.specs.declared.Notice.the-variants.{End, Spoilt, Malformed, 
 use Rattle.totals.specs.declared.Figures.{Figures}
 use Rattle.totals.specs.declared.Totals.{Totals}
 use Rattle.totals.specs.Figures.{noFigures, counts, plus, countsAt, totalsAt, most, capped}
-use Rattle.totals.specs.Totals.{empty, figuresAt, noted, notedAll, PassTotals}
+use Rattle.totals.specs.Totals.{emptyTotals, figuresAt, noted, notedAll, PassTotals}
 
 -- ---- figures
 
@@ -120,16 +120,16 @@ all-four [] t = refl
 all-four (n ∷ ns) t = all-four ns (noted t n) ∙ noted-four t n
 
 -- the empty record
-empty-at : (c : ℕ) → c < 4 → figuresAt empty c ≡ noFigures
-unfolding figuresAt empty
+empty-at : (c : ℕ) → c < 4 → figuresAt emptyTotals c ≡ noFigures
+unfolding figuresAt emptyTotals
 empty-at c below = getD-replicate 4 c noFigures noFigures below
 
 pub pass-totals : PassTotals
-unfolding PassTotals empty noFigures capped most
+unfolding PassTotals emptyTotals noFigures capped most
 pass-totals ns =
     record {
       each = λ c below.
-          noted-all ns empty c below refl (rw (empty-at c below) refl) ∙
+          noted-all ns emptyTotals c below refl (rw (empty-at c below) refl) ∙
           ap (λ f. capped (plus f (totalsAt c ns))) (empty-at c below) ∙ ap capped (none-plus (totalsAt c ns));
-      four = all-four ns empty;
+      four = all-four ns emptyTotals;
     }

@@ -12,8 +12,8 @@ use Rattle.totals.specs.declared.Totals.{Totals}
 use Rattle.totals.specs.Figures.{noFigures, counts, plus, totalsAt, capped}
 
 -- the figures of the circuit numbers 0 to 3, with nothing noted
-unfoldable pub empty : Totals
-empty = record { circuits = replicate 4 noFigures }
+unfoldable pub emptyTotals : Totals
+emptyTotals = record { circuits = replicate 4 noFigures }
 
 -- the figures of a circuit number
 unfoldable pub figuresAt : Totals → ℕ → Figures
@@ -35,8 +35,8 @@ notedAll t (n ∷ ns) = notedAll (noted t n) ns
 -- "After any list of notices from an empty record, each figure is the smaller of that total over the list and 4,294,967,295", and there are no figures but
 -- those of the numbers 0 to 3
 pub record CountsNotices (ns : List Notice) : Type 0 where
-  pub each : (c : ℕ) → c < 4 → figuresAt (notedAll empty ns) c ≡ capped (totalsAt c ns)
-  pub four : length (notedAll empty ns .circuits) ≡ 4
+  pub each : (c : ℕ) → c < 4 → figuresAt (notedAll emptyTotals ns) c ≡ capped (totalsAt c ns)
+  pub four : length (notedAll emptyTotals ns .circuits) ≡ 4
 
 unfoldable pub PassTotals : Type 0
 PassTotals = (ns : List Notice) → CountsNotices ns

@@ -3,7 +3,7 @@ ghost use mathlib.Core.Path.{_≡_};
 ghost use Prim.Native.Nat.{_+_, min};
 ghost use Rattle.notices.specs.declared.Notice.the-variants.{Circuit};
 ghost use Rattle.totals.specs.Figures.{counts, plus, most, capped};
-ghost use Rattle.totals.specs.Totals.{empty, noted, PassTotals};
+ghost use Rattle.totals.specs.Totals.{emptyTotals, noted, PassTotals};
 use notices::Fate;
 use notices::Notice;
 
@@ -36,7 +36,7 @@ fn raised(figure: u32, more: usize) -> u32
 
 impl Figures {
     // The figures with more counted.
-    fn plus(self, messages: usize, bytes: usize, lost: usize, orphaned: usize) -> Figures
+    fn raise(self, messages: usize, bytes: usize, lost: usize, orphaned: usize) -> Figures
         ensures { λ r. ⌜ r ≡ capped (plus self (record { messages = messages; bytes = bytes; lost = lost; orphaned = orphaned })) ⌝ }
     {
         Figures {
@@ -53,12 +53,12 @@ impl Figures {
     {
         let lost = loss as usize;
         match fate {
-            Fate::Copy => self.plus(0, 0, lost, 0),
-            Fate::Begun => self.plus(0, 0, lost, 0),
-            Fate::Held => self.plus(0, 0, lost, 0),
-            Fate::Whole(n) => self.plus(1, n, lost, 0),
-            Fate::Orphan => self.plus(0, 0, lost, 1),
-            Fate::Wrong => self.plus(0, 0, lost, 0),
+            Fate::Copy => self.raise(0, 0, lost, 0),
+            Fate::Begun => self.raise(0, 0, lost, 0),
+            Fate::Held => self.raise(0, 0, lost, 0),
+            Fate::Whole(n) => self.raise(1, n, lost, 0),
+            Fate::Orphan => self.raise(0, 0, lost, 1),
+            Fate::Wrong => self.raise(0, 0, lost, 0),
         }
     }
 }
@@ -66,7 +66,7 @@ impl Figures {
 impl Totals {
     // Nothing noted yet.
     pub fn empty() -> Totals
-        ensures { λ r. ⌜ r ≡ empty ⌝ }
+        ensures { λ r. ⌜ r ≡ emptyTotals ⌝ }
     {
         let none = Figures {
             messages: 0,

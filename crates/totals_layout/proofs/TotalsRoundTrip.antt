@@ -27,6 +27,10 @@ pub length-figuresBytes : (f : Figures) → length (figuresBytes f) ≡ 16
 unfolding figuresBytes lowBytes
 length-figuresBytes f = refl
 
+pub length-totalsBytes : (t : Totals) → length (totalsBytes t) ≡ totalsLength
+unfolding totalsBytes figuresBytes lowBytes
+length-totalsBytes t = refl
+
 -- ---- unpacking what was packed gives the record back
 
 figures-unpack : (f : Figures) → FiguresFit f → figuresIn (figuresBytes f) 0 ≡ f

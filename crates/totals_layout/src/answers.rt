@@ -1,9 +1,9 @@
 // The notice in a reading call's answer.
 ghost use mathlib.Core.Path.{_≡_};
 ghost use Prim.Native.Nat.{_≤_};
-ghost use lib.ListN.{length, take};
+ghost use lib.ListN.{length};
 ghost use Rattle.receiver_layout.specs.Answers.{readAnswerLength};
-ghost use Rattle.totals_layout.specs.NoticeSaid.{fateOfNumber, likelyNotice, same, noticeSaid, notedSaid};
+ghost use Rattle.totals_layout.specs.NoticeSaid.{fateOfNumber, likelyNotice, beginsWith, noticeSaid, notedSaid};
 use super::Said;
 use layout::word_at;
 use notices::Fate;
@@ -32,7 +32,7 @@ fn wide(b: u8) -> usize
     b as usize
 }
 
-// The only notice that may have these bytes.
+// The only notice that fits and may have these bytes.
 fn likely_notice(answer: &[u8]) -> Notice
     requires { ⌜ readAnswerLength ≤ length (now answer) ⌝ }
     ensures { λ r. ⌜ r ≡ likelyNotice (now (answer .entry)) ⌝ }
@@ -58,7 +58,7 @@ fn likely_notice(answer: &[u8]) -> Notice
 // The answer begins with these bytes.
 fn begins_with(answer: &[u8], told: [u8; 8]) -> bool
     requires { ⌜ readAnswerLength ≤ length (now answer) ⌝ }
-    ensures { λ r. ⌜ r ≡ same told (take 8 (now (answer .entry))) ⌝ }
+    ensures { λ r. ⌜ r ≡ beginsWith (now (answer .entry)) told ⌝ }
 {
     let mut k = 0;
     while k < 8 {
@@ -78,9 +78,9 @@ fn notice_said(answer: &[u8]) -> Said
     let notice = likely_notice(answer);
     let told = notice_bytes(notice);
     if !begins_with(answer, told) {
-        return Said::Nothing;
+        return Said::AnswerOfNone;
     }
-    Said::Told(notice)
+    Said::AnswerOf(notice)
 }
 
 // The record after an answer.
@@ -89,7 +89,7 @@ pub fn note(totals: Totals, answer: &[u8]) -> Totals
     ensures { λ r. ⌜ r ≡ notedSaid totals (noticeSaid (now (answer .entry))) ⌝ }
 {
     match notice_said(answer) {
-        Said::Told(notice) => totals.note(notice),
-        Said::Nothing => totals,
+        Said::AnswerOf(notice) => totals.note(notice),
+        Said::AnswerOfNone => totals,
     }
 }

@@ -19,8 +19,8 @@ pub const LENGTH: usize = 64;
 
 // What the bytes of an answer say: a notice, or nothing where they are the answer of none.
 pub enum Said {
-    Told(Notice),
-    Nothing,
+    AnswerOf(Notice),
+    AnswerOfNone,
 }
 
 // A number of two bytes as a wider one.

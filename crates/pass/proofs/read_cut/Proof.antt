@@ -9,16 +9,16 @@ use Rattle.pass.proofs.read_cut.Statement.{statement}
 use Rattle.pass.proofs.read_cut.Tie as tie
 
 abbrev Inv-loop : tie.InvT-loop
-Inv-loop store₀ joined counts₀ from to r₀ at₀ store counts r at = length store ≡ length store₀
+Inv-loop store₀ joined counts₀ from to r₀ totals₀ at₀ store counts r totals at = length store ≡ length store₀
 
 abbrev μ-loop : tie.MeasureT-loop
-μ-loop store₀ joined counts₀ from to r₀ at₀ store counts r at = to - at
+μ-loop store₀ joined counts₀ from to r₀ totals₀ at₀ store counts r totals at = to - at
 
 -- the bits that a call read
 on : (c : tie.After-read2 Inv-loop μ-loop) →
     let read = c .before .before .before .before in
     let loop = read .before .before .before in
-    ReadOn (loop .loop .at) (loop .before .before .before .args .to) (read .read .result .bits)
+    ReadOn (loop .loop .at) (loop .before .before .before .before .before .args .to) (read .read .result .bits)
 on c =
     let read = c .before .before .before .before in
     read-on _ _ _ _ _ (read .before .before .loop-test .taken) (read .read .ensures) (c .read2 .given .1)
@@ -41,11 +41,14 @@ add-at c = omega (arith, on (c .before .before .before))
 count-requires : tie.Need-count-requires Inv-loop μ-loop
 count-requires c κs = search needs
 
-note-all-requires : tie.Need-note-all-requires Inv-loop μ-loop
-note-all-requires c κs = search needs
+note-requires : tie.Need-note-requires Inv-loop μ-loop
+note-requires c κs = search needs
+
+print-notice-requires : tie.Need-print-notice-requires Inv-loop μ-loop
+print-notice-requires c κs = search needs
 
 loop-less : tie.Need-loop-less Inv-loop μ-loop
-loop-less c = omega (arith, on (c .before .before .before .before .before .before .before .before))
+loop-less c = omega (arith, on (c .before .before .before .before .before .before .before .before .before))
 
 loop-again : tie.Need-loop-again Inv-loop μ-loop
 loop-again c = search needs
@@ -74,7 +77,8 @@ read-cut-spec =
     enum-told
     add-at
     count-requires
-    note-all-requires
+    note-requires
+    print-notice-requires
     loop-less
     loop-again
     same-length

@@ -7,16 +7,19 @@ use Rattle.pass.proofs.receive.Statement.{statement}
 use Rattle.pass.proofs.receive.Tie as tie
 
 abbrev Inv-loop : tie.InvT-loop
-Inv-loop store₀ joined counts₀ r₀ at₀ store counts r at = length store ≡ length store₀
+Inv-loop store₀ joined counts₀ station₀ at₀ store counts station at = length store ≡ length store₀
 
 abbrev μ-loop : tie.MeasureT-loop
-μ-loop store₀ joined counts₀ r₀ at₀ store counts r at = 14400 - at
+μ-loop store₀ joined counts₀ station₀ at₀ store counts station at = 14400 - at
 
 slice-aggregate-list : tie.Need-slice-aggregate-list Inv-loop μ-loop
 slice-aggregate-list c = search needs
 
 list-requires : tie.Need-list-requires Inv-loop μ-loop
 list-requires c κs = search needs
+
+empty-requires : tie.Need-empty-requires Inv-loop μ-loop
+empty-requires c κs = search needs
 
 loop-holds : tie.Need-loop-holds Inv-loop μ-loop
 loop-holds c = search needs
@@ -47,6 +50,7 @@ receive-spec =
     μ-loop
     slice-aggregate-list
     list-requires
+    empty-requires
     loop-holds
     cut-end-requires
     read-cut-requires

@@ -23,7 +23,7 @@ use Rattle.totals.specs.Figures.{noFigures, counts, plus, countsAt, totalsAt, m
 use Rattle.totals.specs.Totals.{PassTotals}
 use Rattle.totals.proofs.CountsNotices.{pass-totals}
 use Rattle.link.specs.Demand3.{lossAt, lossesAt, handedFrom, handedAt, handedOver, notices, Demand3}
-use Rattle.link.specs.PassTotals.{passTotals, Demand3Totals}
+use Rattle.link.specs.Demand3Totals.{passTotals, Demand3Totals}
 use Rattle.link.proofs.ClaimHolds.{demand-3}
 
 -- ---- losses and messages, counted
@@ -101,7 +101,7 @@ demand-3-totals p g noOther n there six =
     let is = pass-totals (map (λ (t : Report). t .notice) (notices p)) .each n n-lt in
     let f = counted-notices n n-lt (notices p) (told-in-range (p .receiverList) (p .receiverStore) (p .reads)) in
     record {
-      lost = ap (λ (x : Figures). x .lost) is ∙ ap (λ (k : ℕ). min k most) (f .lost ∙ claim .losses);
-      messages = ap (λ (x : Figures). x .messages) is ∙ ap (λ (k : ℕ). min k most) (f .messages ∙ ap length (claim .handed));
-      bytes = ap (λ (x : Figures). x .bytes) is ∙ ap (λ (k : ℕ). min k most) (f .bytes ∙ ap (λ ms. length (flatten ms)) (claim .handed));
+      packetsLost = ap (λ (x : Figures). x .lost) is ∙ ap (λ (k : ℕ). min k most) (f .lost ∙ claim .losses);
+      messagesWhole = ap (λ (x : Figures). x .messages) is ∙ ap (λ (k : ℕ). min k most) (f .messages ∙ ap length (claim .handed));
+      theirBytes = ap (λ (x : Figures). x .bytes) is ∙ ap (λ (k : ℕ). min k most) (f .bytes ∙ ap (λ ms. length (flatten ms)) (claim .handed));
     }

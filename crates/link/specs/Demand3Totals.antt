@@ -9,21 +9,21 @@ use Rattle.packet.specs.Circuits.{circuitsOf}
 use Rattle.receiver.specs.Reads.{Report}
 use Rattle.totals.specs.declared.Totals.{Totals}
 use Rattle.totals.specs.Figures.{most}
-use Rattle.totals.specs.Totals.{empty, figuresAt, notedAll}
+use Rattle.totals.specs.Totals.{emptyTotals, figuresAt, notedAll}
 use Rattle.link.specs.Demand3.{Pass, frames, result, came, messagesThatCame, fromFirstToLast, lost, notices, Given, noOtherPasses, atMostSixLost, circuitAt}
 
 -- "a record beside the receiver, brought up to date with each notice" that the reading calls tell, "from an empty record"
 unfoldable pub passTotals : Pass → Totals
-passTotals p = notedAll empty (map (λ (t : Report). t .notice) (notices p))
+passTotals p = notedAll emptyTotals (map (λ (t : Report). t .notice) (notices p))
 
 -- "each figure is the smaller of that total .. and 4,294,967,295", where the total is the number that demand 3 claims
 pub record TotalsOfClaim (p : Pass) (n : ℕ) : Type 0 where
   -- packets lost: "the number of packets lost there after the first to come and before the last" (the brief)
-  pub lost : figuresAt (passTotals p) n .lost ≡ min (lost (fromFirstToLast (came p (circuitAt p n)))) most
+  pub packetsLost : figuresAt (passTotals p) n .lost ≡ min (lost (fromFirstToLast (came p (circuitAt p n)))) most
   -- messages whole: as many as those "sent there of which every packet came in some copy" (the brief)
-  pub messages : figuresAt (passTotals p) n .messages ≡ min (length (messagesThatCame p (circuitAt p n))) most
+  pub messagesWhole : figuresAt (passTotals p) n .messages ≡ min (length (messagesThatCame p (circuitAt p n))) most
   -- "their bytes": those of all these messages
-  pub bytes : figuresAt (passTotals p) n .bytes ≡ min (length (flatten (messagesThatCame p (circuitAt p n)))) most
+  pub theirBytes : figuresAt (passTotals p) n .bytes ≡ min (length (flatten (messagesThatCame p (circuitAt p n)))) most
 
 -- exactly where demand 3 claims something
 unfoldable pub Demand3Totals : Type 0
