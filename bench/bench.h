@@ -20,6 +20,13 @@ struct plain_read {
     uint64_t bits;
 };
 
+/* Totals: the figures of each circuit number. On a little-endian machine their bytes are those of the library's record. */
+struct plain_totals {
+    struct plain_figures {
+        uint32_t messages, bytes, lost, orphaned;
+    } circuits[4];
+};
+
 /* A system packet; a block call is given a null pointer where none is wanted. */
 struct plain_system {
     uint64_t enable, code;
@@ -35,6 +42,7 @@ uint32_t plain_sender_block(struct plain_sender *s, const uint8_t *store, size_t
 uint32_t plain_receiver_list(struct plain_receiver *r, const uint8_t *list, size_t list_len);
 uint32_t plain_receiver_read(struct plain_receiver *r, uint8_t *store, size_t store_len, const uint8_t *bits, size_t bits_len,
                              uint64_t from, uint64_t to, struct plain_read *answer);
+uint32_t plain_totals_note(struct plain_totals *t, const struct plain_read *answer);
 
 /* How many bytes of a stack of its own `call` touches. */
 size_t stack_depth(void (*call)(void *), void *given);

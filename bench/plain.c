@@ -1,5 +1,5 @@
 /* The channel in plain C, bit by bit, as a firmware would have it. A record is a struct; each call checks it as refusal 14 asks, but takes any
-   framing as it is. */
+   framing as it is. Noting takes any answer as that of a read. */
 #include "bench.h"
 #include <string.h>
 
@@ -555,5 +555,26 @@ uint32_t plain_receiver_read(struct plain_receiver *r, uint8_t *store, size_t st
     else if (found < 0)
         answer->notice = SPOILT;
     answer->bits = at - from;
+    return 0;
+}
+
+/* ---- totals */
+
+/* The sum, or the highest number if it would pass that. */
+static uint32_t capped(uint32_t figure, uint32_t more)
+{
+    return more > UINT32_MAX - figure ? UINT32_MAX : figure + more;
+}
+
+uint32_t plain_totals_note(struct plain_totals *t, const struct plain_read *answer)
+{
+    struct plain_figures *f;
+    if (answer->notice != CIRCUIT || answer->number_or_enable >= CIRCUITS)
+        return 0;
+    f = &t->circuits[answer->number_or_enable];
+    f->messages = capped(f->messages, answer->fate_or_information == WHOLE);
+    f->bytes = capped(f->bytes, answer->length);
+    f->lost = capped(f->lost, answer->loss_or_code);
+    f->orphaned = capped(f->orphaned, answer->fate_or_information == ORPHAN);
     return 0;
 }

@@ -4,7 +4,7 @@
  * A sender lists circuits, takes messages and makes blocks of user bits. A receiver lists circuits and reads bits, cut anywhere, up to the next
  * notice. Totals, kept beside a receiver, are what the notices of a pass add up to at each circuit. These are the functions of the static library
  * libaes18.a for x86-64, which `rt staticlib aes18` proves and writes; docs/PROOFS.md says what is proved of them. Document 01 is the specification:
- * refusals have its numbers, and its words stand in quotation marks.
+ * refusals have its numbers, and its words stand in quotation marks. The totals are those of document 02, ask 1.
  *
  * What is lent. Every array is lent as a pointer and its length in bytes, for the time of the call. With length 0 any pointer will do, a null
  * pointer too, and is not followed. An array that a call writes (record, totals, block, the answer of a block and of a read, and the store of an
@@ -262,7 +262,8 @@ uint32_t aes18_receiver_read(uint8_t *record, size_t record_len, uint8_t *store,
  *   the loss to the packets lost, whatever the fate;
  *   1 to the packets orphaned if the fate is ORPHAN; WRONG adds nothing there.
  * So each figure is the smaller of its total over all notices noted since the record was empty and AES18_TOTALS_MOST, which stands for that many or
- * more. Other notices, circuit numbers above 3 and bytes that are the answer of no notice change nothing. The bits read are not looked at.
+ * more. Packets lost before the first that came or behind the last are in no figure: no notice tells of them. Other notices, circuit numbers above 3
+ * and bytes that are the answer of no notice change nothing. The bits read are not looked at.
  * Note an answer only if its read was accepted: behind a refused one the answer still holds the notice before, which would count twice.
  * Refusals: SHORT.
  */

@@ -3,13 +3,14 @@
 mod blocks;
 mod calls;
 mod noise;
+mod notes;
 mod race;
 mod reads;
 mod sides;
 mod stack;
 mod table;
 
-use aes18::{RECEIVER_RECORD, RECEIVER_STORE, SENDER_RECORD, SENDER_STORE};
+use aes18::{RECEIVER_RECORD, RECEIVER_STORE, SENDER_RECORD, SENDER_STORE, TOTALS_RECORD};
 use blocks::Traffic;
 use noise::Noise;
 use race::{Race, TURNS};
@@ -37,14 +38,17 @@ fn run() -> Result<(), String> {
     let mut making = blocks::races(&mut noise);
     let clean = Channel::clean(&making[0].case).map_err(refused)?;
     let mut reading = reads::races(&clean, &mut noise).map_err(refused)?;
+    let mut noting = notes::races(&reading[1].case).map_err(refused)?;
     let mut calling = calls::races(&clean);
     head()?;
     check(&mut making)?;
     check(&mut reading)?;
+    check(&mut noting)?;
     check(&mut calling)?;
-    say("Checked: in every case the three give the same blocks, answers, messages and stores. They are compared again after every turn.")?;
+    say("Checked: in every case the three give the same blocks, answers, messages, stores and totals. They are compared again after every turn.")?;
     time("Block making", "bit", &mut making)?;
     time("Reading", "bit", &mut reading)?;
+    time("Noting", "call", &mut noting)?;
     time("Calls without work", "call", &mut calling)?;
     sizes(plain_records)?;
     depths(&making[0].case, &reading[1].case)?;
@@ -111,6 +115,7 @@ fn sizes([plain_sender, plain_receiver]: [usize; 2]) -> Result<(), String> {
     table::bytes_head("Lent by the caller, bytes")?;
     table::bytes("sender's record", SENDER_RECORD, plain_sender)?;
     table::bytes("receiver's record", RECEIVER_RECORD, plain_receiver)?;
+    table::bytes("record of totals", TOTALS_RECORD, TOTALS_RECORD)?;
     table::bytes("sender's store", SENDER_STORE, SENDER_STORE)?;
     table::bytes("receiver's store", RECEIVER_STORE, RECEIVER_STORE)
 }

@@ -54,7 +54,7 @@ impl Channel {
 /// What reading leaves.
 #[derive(PartialEq)]
 pub struct Heard {
-    answers: Vec<ReadAnswer>,
+    pub answers: Vec<ReadAnswer>,
     messages: Vec<u8>,
     store: Vec<u8>,
 }

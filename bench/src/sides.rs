@@ -8,13 +8,14 @@ pub use library::Library;
 pub use plain::Plain;
 pub use reference::Reference;
 
-use aes18::SystemPacket;
+use aes18::{SystemPacket, TOTALS_RECORD};
 use std::ops::Range;
 
 /// One of the implementations that are timed.
 pub trait Side {
     type Sender: Sender;
     type Receiver: Receiver;
+    type Totals: Totals;
 }
 
 /// A sender; before it is listed it has no circuits.
@@ -28,6 +29,13 @@ pub trait Sender: Default {
 pub trait Receiver: Default {
     fn list(&mut self, list: &[u8]) -> Result<(), u32>;
     fn read(&mut self, store: &mut [u8], bits: &[u8], part: Part) -> Result<ReadAnswer, u32>;
+}
+
+/// Totals, empty at first.
+pub trait Totals: Default {
+    fn note(&mut self, answer: &ReadAnswer) -> Result<(), u32>;
+    /// Their bytes in the library's record.
+    fn record(&self) -> [u8; TOTALS_RECORD];
 }
 
 /// A message that is offered.

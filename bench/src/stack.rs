@@ -1,19 +1,22 @@
 //! How deep the calls go on the stack: each runs on a stack of its own that is filled with a pattern beforehand (stack.c).
 
 use crate::blocks::{make, Made, Traffic};
-use crate::reads::{hear, Channel, Heard};
-use crate::sides::{Ask, BlockAnswer, Offer, Part, ReadAnswer, Receiver, Sender, Side};
+use crate::notes::{answers, note, Noted};
+use crate::reads::Channel;
+use crate::sides::{Ask, BlockAnswer, Offer, Part, ReadAnswer, Receiver, Sender, Side, Totals};
+use aes18::TOTALS_RECORD;
 use std::cell::Cell;
 use std::ffi::c_void;
 use std::marker::PhantomData;
 
-/// The names of both ends' calls.
-pub const CALLS: [&str; 5] = [
+/// The names of the calls.
+pub const CALLS: [&str; 6] = [
     "sender_list",
     "sender_offer",
     "sender_block",
     "receiver_list",
     "receiver_read",
+    "totals_note",
 ];
 
 /// The number of a call among them.
@@ -24,18 +27,20 @@ enum Call {
     SenderBlock,
     ReceiverList,
     ReceiverRead,
+    TotalsNote,
 }
 
 thread_local! {
     /// The bytes that the deepest of each of these calls has touched.
-    static DEEPEST: Cell<[usize; 5]> = const { Cell::new([0; 5]) };
+    static DEEPEST: Cell<[usize; 6]> = const { Cell::new([0; 6]) };
 }
 
-/// The bytes that the deepest of each of these calls touches while the traffic's blocks are made and the channel is read.
-pub fn depths<S: Side>(traffic: &Traffic, channel: &Channel) -> Result<[usize; 5], u32> {
-    DEEPEST.set([0; 5]);
+/// The bytes that the deepest of each of these calls touches while the traffic's blocks are made and the channel is read and noted.
+pub fn depths<S: Side>(traffic: &Traffic, channel: &Channel) -> Result<[usize; 6], u32> {
+    DEEPEST.set([0; 6]);
     make::<Painted<S>>(traffic, &mut Made::default())?;
-    hear::<Painted<S>>(channel, &mut Heard::default())?;
+    let answers = answers::<Painted<S>>(channel)?;
+    note::<Painted<S>>(&answers, &mut Noted::default())?;
     Ok(DEEPEST.get())
 }
 
@@ -68,6 +73,7 @@ struct Painted<S>(PhantomData<S>);
 impl<S: Side> Side for Painted<S> {
     type Sender = PaintedSender<S::Sender>;
     type Receiver = PaintedReceiver<S::Receiver>;
+    type Totals = PaintedTotals<S::Totals>;
 }
 
 #[derive(Default)]
@@ -97,5 +103,18 @@ impl<E: Receiver> Receiver for PaintedReceiver<E> {
 
     fn read(&mut self, store: &mut [u8], bits: &[u8], part: Part) -> Result<ReadAnswer, u32> {
         painted(Call::ReceiverRead, || self.0.read(store, bits, part))
+    }
+}
+
+#[derive(Default)]
+struct PaintedTotals<E>(E);
+
+impl<E: Totals> Totals for PaintedTotals<E> {
+    fn note(&mut self, answer: &ReadAnswer) -> Result<(), u32> {
+        painted(Call::TotalsNote, || self.0.note(answer))
+    }
+
+    fn record(&self) -> [u8; TOTALS_RECORD] {
+        self.0.record()
     }
 }

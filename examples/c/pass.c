@@ -26,6 +26,7 @@ static const char *const messages[BLOCKS][CIRCUITS] = {
 
 static const char *const fates[] = {"Copy", "Begun", "Held", "Whole", "Orphan", "Wrong"};
 
+/* A receiver, and totals beside it. These are empty while all their bytes are 0, as those of a static struct are at first. */
 struct receiver {
     uint8_t record[AES18_RECEIVER_RECORD];
     uint8_t store[AES18_RECEIVER_STORE];

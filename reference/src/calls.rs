@@ -64,36 +64,34 @@ pub fn read_answer(read: &Read) -> [u8; READ_ANSWER] {
     answer
 }
 
-/// The notice that reading answers by these bytes; none if no notice gives the eight before the bits read. It is guessed from the first six and has
-/// to give all of them.
+/// The notice that reading answers by these bytes; none if no notice has the eight before the bits read.
 pub fn answered_notice(answer: &[u8]) -> Option<Notice> {
-    let [kind, one, two, three, low, high] = [0, 1, 2, 3, 4, 5].map(|at| usize::from(answer[at]));
-    let fates = [
-        Fate::Copy,
-        Fate::Begun,
-        Fate::Held,
-        Fate::Whole(low + 256 * high),
-        Fate::Orphan,
-        Fate::Wrong,
-    ];
-    let notice = match kind {
-        0 => Notice::End,
-        1 => Notice::Spoilt,
-        2 => Notice::Malformed,
-        3 => Notice::System {
-            enable: one as u64,
-            code: two as u64,
-            length: three,
-        },
-        4 => Notice::Elsewhere,
-        _ => Notice::Circuit {
-            number: one,
-            loss: two as u8,
-            fate: *fates.get(three)?,
-        },
+    let circuit = |number: u8, loss, fate| Notice::Circuit {
+        number: number.into(),
+        loss,
+        fate,
     };
-    let given = read_answer(&Read { notice, bits: 0 });
-    (given[..8] == answer[..8]).then_some(notice)
+    Some(match *answer {
+        [0, 0, 0, 0, 0, 0, 0, 0, ..] => Notice::End,
+        [1, 0, 0, 0, 0, 0, 0, 0, ..] => Notice::Spoilt,
+        [2, 0, 0, 0, 0, 0, 0, 0, ..] => Notice::Malformed,
+        [3, enable, code, length, 0, 0, 0, 0, ..] => Notice::System {
+            enable: enable.into(),
+            code: code.into(),
+            length: length.into(),
+        },
+        [4, 0, 0, 0, 0, 0, 0, 0, ..] => Notice::Elsewhere,
+        [5, number, loss, 0, 0, 0, 0, 0, ..] => circuit(number, loss, Fate::Copy),
+        [5, number, loss, 1, 0, 0, 0, 0, ..] => circuit(number, loss, Fate::Begun),
+        [5, number, loss, 2, 0, 0, 0, 0, ..] => circuit(number, loss, Fate::Held),
+        [5, number, loss, 3, low, high, 0, 0, ..] => {
+            let length = u16::from_le_bytes([low, high]);
+            circuit(number, loss, Fate::Whole(length.into()))
+        }
+        [5, number, loss, 4, 0, 0, 0, 0, ..] => circuit(number, loss, Fate::Orphan),
+        [5, number, loss, 5, 0, 0, 0, 0, ..] => circuit(number, loss, Fate::Wrong),
+        _ => return None,
+    })
 }
 
 pub fn sender_list(record: &mut [u8], list: &[u8]) -> u32 {

@@ -6,7 +6,7 @@ use crate::notice::Notice;
 
 /// The totals of a pass: for each circuit number 0 to 3 its [`Figures`], brought up to date with each notice.
 ///
-/// They stand beside a receiver, which neither reads nor writes them. It is a value of 64 bytes.
+/// They stand beside a receiver, which neither reads nor writes them. Totals are a value of 64 bytes.
 ///
 /// ```
 /// use aes18::{Circuit, Figures, Notice, Receiver, Sender, Totals, RECEIVER_STORE, SENDER_STORE};
@@ -52,7 +52,8 @@ pub struct Figures {
     pub messages: u32,
     /// Their bytes.
     pub bytes: u32,
-    /// Packets lost: the sum of the losses, whatever became of the packets behind them.
+    /// Packets lost: the sum of the losses, whatever became of the packets behind them. Packets lost before the first that came or behind the last
+    /// are in no figure.
     pub lost: u32,
     /// Packets orphaned. Wrong ones are not counted here.
     pub orphaned: u32,
@@ -68,8 +69,7 @@ impl Totals {
 
     /// Notes a notice: [`Notice::Circuit`] counts at its number, if that is not above 3; all others count nowhere.
     ///
-    /// Notices of a receiver fit the bytes of a reading call's answer. One made by hand that does not, since its number is above 255, its message
-    /// above 65,535 bytes or its information above 255, counts nowhere.
+    /// A message above 65,535 bytes, which no receiver tells, does not fit an answer and is not counted, nor is its loss.
     pub fn note(&mut self, notice: &Notice) {
         if let Some(answer) = notice.answer() {
             calls::totals_note(&mut self.record, &answer);
@@ -78,8 +78,12 @@ impl Totals {
 
     /// The figures of a circuit number; none above 3.
     pub fn circuit(&self, number: usize) -> Option<Figures> {
-        let mut circuits = self.record.chunks_exact(CIRCUIT);
-        circuits.nth(number).map(Figures::of)
+        self.circuits().get(number).copied()
+    }
+
+    /// The figures of the circuit numbers 0 to 3.
+    pub fn circuits(&self) -> [Figures; 4] {
+        core::array::from_fn(|number| Figures::of(&self.record[CIRCUIT * number..][..CIRCUIT]))
     }
 
     /// The record's bytes. Their layout is no storage format: a later version may have another.

@@ -254,35 +254,38 @@ fn every_kind() {
     let system = b"\xFF\xCF\x31!";
     let elsewhere = b"\x01\xA0\x09\x00";
     let malformed = b"\xFF\x80segment";
-    let packets: [&[u8]; 9] = [
-        wrong, whole, whole, orphan, begun, held, system, elsewhere, malformed,
+    let packets: [&[u8]; 10] = [
+        wrong, whole, whole, whole, orphan, begun, held, system, elsewhere, malformed,
     ];
     file(&folder, &frames(&packets));
     let text = printed(&folder, &["--circuits", "01", "pass"]);
     assert_eq!(text, KINDS);
+    let svg = printed(&folder, &["--circuits", "01", "--svg", "-", "pass"]);
+    let legend = "frames 7, copies 2, whole 1, bytes 6, orphan 1, wrong 1";
+    assert!(svg.contains(&format!(">circuit 0 (01): {legend}</text>")));
 }
 
 const KINDS: &str = "\
 pass: rows of 1000 bits, 11 to a character
      bit
-       0 0xxxxxxx0=======0========0xxxxxx0==============0==============S====E====M========.
+       0 0xxxxxxx0=======0========0========0xxxxx0===============0==============S====E====M========.
 
                         frames  copies   begun    held   whole       bytes  orphan   wrong    lost
-0  circuit 0 (01)            6       1       1       1       1           6       1       1       0
+0  circuit 0 (01)            7       2       1       1       1           6       1       1       0
 S  system packets            1
 E  elsewhere                 1
 M  malformed                 1
 !  spoilt                    0
 ~  bits in no frame          0
-.  flags                    10
+.  flags                    11
 -  closing ones              0
 ^  packets lost before the frame that begins here
 =  the frame goes on; x where it is an orphan or wrong
 
 3 places went wrong:
   bits 8 to 79: circuit 0 (01), wrong in length
-  bits 280 to 343: circuit 0 (01), orphan: no message is open
-  bits 802 to 890: malformed packet
+  bits 376 to 439: circuit 0 (01), orphan: no message is open
+  bits 898 to 986: malformed packet
 ";
 
 #[test]

@@ -1,13 +1,14 @@
 //! The library through its functions in C.
 
-use super::{answered, Ask, BlockAnswer, Offer, Part, ReadAnswer, Receiver, Sender, Side};
-use aes18::{ffi, RECEIVER_RECORD, SENDER_RECORD};
+use super::{answered, Ask, BlockAnswer, Offer, Part, ReadAnswer, Receiver, Sender, Side, Totals};
+use aes18::{ffi, RECEIVER_RECORD, SENDER_RECORD, TOTALS_RECORD};
 
 pub struct Library;
 
 impl Side for Library {
     type Sender = LibrarySender;
     type Receiver = LibraryReceiver;
+    type Totals = LibraryTotals;
 }
 
 pub struct LibrarySender([u8; SENDER_RECORD]);
@@ -108,5 +109,31 @@ impl Receiver for LibraryReceiver {
             )
         })?;
         Ok(answer)
+    }
+}
+
+pub struct LibraryTotals([u8; TOTALS_RECORD]);
+
+impl Default for LibraryTotals {
+    fn default() -> LibraryTotals {
+        LibraryTotals([0; TOTALS_RECORD])
+    }
+}
+
+impl Totals for LibraryTotals {
+    fn note(&mut self, answer: &ReadAnswer) -> Result<(), u32> {
+        let (totals, answer) = (&mut self.0, &answer.0);
+        answered(unsafe {
+            ffi::aes18_totals_note(
+                totals.as_mut_ptr(),
+                totals.len(),
+                answer.as_ptr(),
+                answer.len(),
+            )
+        })
+    }
+
+    fn record(&self) -> [u8; TOTALS_RECORD] {
+        self.0
     }
 }

@@ -1,6 +1,7 @@
 //! Plain C: plain.c, as bench.h declares it.
 
-use super::{answered, Ask, BlockAnswer, Offer, Part, ReadAnswer, Receiver, Sender, Side};
+use super::{answered, Ask, BlockAnswer, Offer, Part, ReadAnswer, Receiver, Sender, Side, Totals};
+use aes18::TOTALS_RECORD;
 use std::ptr;
 
 pub struct Plain;
@@ -8,6 +9,7 @@ pub struct Plain;
 impl Side for Plain {
     type Sender = PlainSender;
     type Receiver = PlainReceiver;
+    type Totals = PlainTotals;
 }
 
 /// Room for either struct of plain.c, which says how much of it is used.
@@ -20,6 +22,11 @@ pub struct PlainSender(Room);
 #[derive(Default)]
 #[repr(C)]
 pub struct PlainReceiver(Room);
+
+/// The figures in their order.
+#[derive(Default)]
+#[repr(C)]
+pub struct PlainTotals([u32; TOTALS_RECORD / 4]);
 
 #[repr(C)]
 struct PlainSystem {
@@ -65,6 +72,7 @@ extern "C" {
         to: u64,
         answer: *mut ReadAnswer,
     ) -> u32;
+    fn plain_totals_note(t: *mut PlainTotals, answer: *const ReadAnswer) -> u32;
 }
 
 impl Plain {
@@ -81,8 +89,8 @@ impl Plain {
     }
 }
 
-// SAFETY of the calls below: a record has room for the struct (`record_sizes`), an answer is laid out as its struct, each other pointer is of a
-// slice and passed with its length, and nothing that is written overlaps anything else.
+// SAFETY of the calls below: a record has room for the struct (`record_sizes`), totals and an answer are laid out as their structs, each other
+// pointer is of a slice and passed with its length, and nothing that is written overlaps anything else.
 
 impl Sender for PlainSender {
     fn list(&mut self, list: &[u8]) -> Result<(), u32> {
@@ -149,5 +157,19 @@ impl Receiver for PlainReceiver {
             )
         })?;
         Ok(answer)
+    }
+}
+
+impl Totals for PlainTotals {
+    fn note(&mut self, answer: &ReadAnswer) -> Result<(), u32> {
+        answered(unsafe { plain_totals_note(self, answer) })
+    }
+
+    fn record(&self) -> [u8; TOTALS_RECORD] {
+        let mut record = [0; TOTALS_RECORD];
+        for (bytes, figure) in record.chunks_mut(4).zip(self.0) {
+            bytes.copy_from_slice(&figure.to_le_bytes());
+        }
+        record
     }
 }

@@ -1,8 +1,9 @@
 //! The reference through its own values, which hold all that an end remembers; no record is packed or checked in a call.
 
-use super::{Ask, BlockAnswer, Offer, Part, ReadAnswer, Receiver, Sender, Side};
-use aes18_reference::calls::{block_answer, read_answer};
-use aes18_reference::{packet, receiver, sender};
+use super::{Ask, BlockAnswer, Offer, Part, ReadAnswer, Receiver, Sender, Side, Totals};
+use aes18::TOTALS_RECORD;
+use aes18_reference::calls::{answered_notice, block_answer, read_answer};
+use aes18_reference::{packet, receiver, sender, totals};
 
 /// The refusal of a call on a record that was not made by listing.
 const NO_RECORD: u32 = 14;
@@ -12,6 +13,7 @@ pub struct Reference;
 impl Side for Reference {
     type Sender = ReferenceSender;
     type Receiver = ReferenceReceiver;
+    type Totals = ReferenceTotals;
 }
 
 #[derive(Default)]
@@ -59,5 +61,19 @@ impl Receiver for ReferenceReceiver {
         let receiver = self.0.as_mut().ok_or(NO_RECORD)?;
         let read = receiver.read(store, bits, part.from, part.to)?;
         Ok(ReadAnswer(read_answer(&read)))
+    }
+}
+
+#[derive(Default)]
+pub struct ReferenceTotals(totals::Totals);
+
+impl Totals for ReferenceTotals {
+    fn note(&mut self, answer: &ReadAnswer) -> Result<(), u32> {
+        self.0.add(answered_notice(&answer.0).as_slice());
+        Ok(())
+    }
+
+    fn record(&self) -> [u8; TOTALS_RECORD] {
+        self.0.record()
     }
 }

@@ -85,6 +85,38 @@ bits read 2000; System 0, Spoilt 1, Malformed 0, Elsewhere 0
     assert_eq!(told, expected);
 }
 
+/// A torn pass in which no figure is like another of its line. Of ten packets eight are lost in a row, which looks like none, so the last does not
+/// fit; of six two are lost, which is told, and the three behind them are orphans.
+fn torn_pass(name: &str) -> Folder {
+    let folder = Folder::new(name);
+    folder.write("ten", [b'a'; 150]);
+    folder.write("six", [b'a'; 90]);
+    let plan = "circuits 01 02\n\
+        offer 0 0 0 @ten\nblock 2000 2000\n\
+        offer 0 0 0 @six\nblock 2000 2000\n\
+        offer 0 0 5 \"again\"\noffer 1 0 2 \"beside\"\nblock 1000 1000 system 15 1\n";
+    let short = "offer 0 0 0 \"again\"\nblock 256 256\n".repeat(3);
+    folder.write("plan", format!("{plan}{short}"));
+    assert_eq!(folder.run(&["encode", "plan", "-o", "bits"]).status, 0);
+    let mut bits = folder.read("bits");
+    bits[30..180].fill(0);
+    bits[280..300].fill(0);
+    folder.write("bits", &bits);
+    folder
+}
+
+#[test]
+fn figures_that_all_differ() {
+    let folder = torn_pass("figures");
+    let told = folder.run(&["decode", "--circuits", "01", "bits"]).told();
+    let expected = "
+circuit    packets    copies      lost  messages     bytes   orphans     wrong
+01              10         5         2         4        20         3         1
+bits read 5768; System 1, Spoilt 2, Malformed 0, Elsewhere 3
+";
+    assert!(told.ends_with(expected), "{told}");
+}
+
 /// Any bytes are read, and no bytes too.
 #[test]
 fn any_bytes() {
@@ -129,6 +161,16 @@ fn json_lines() {
     for (line, object) in expected {
         assert_eq!(values[line], json::parse(object));
     }
+}
+
+#[test]
+fn json_figures_that_all_differ() {
+    let folder = torn_pass("json-figures");
+    let told = folder
+        .run(&["decode", "--json", "--circuits", "01", "bits"])
+        .told();
+    let expected = r#"{"totals":{"bits":5768,"system":1,"spoilt":2,"malformed":0,"elsewhere":3,"circuits":[{"number":0,"circuit":"01","packets":10,"copies":5,"lost":2,"messages":4,"bytes":20,"orphans":3,"wrong":1}]}}"#;
+    assert_eq!(told.lines().last(), Some(expected));
 }
 
 /// Text with every character that JSON escapes, and bytes that are no text.

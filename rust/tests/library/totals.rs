@@ -54,6 +54,11 @@ fn figures_stand_in_their_places() {
     };
     assert_eq!(totals.circuit(1), Some(figures));
     assert_eq!(totals.circuit(4), None);
+    let messages = totals.circuits().map(|figures| figures.messages);
+    assert_eq!(
+        messages,
+        [0x0302_0100, 0x1312_1110, 0x2322_2120, 0x3332_3130]
+    );
 }
 
 /// Each fate with a loss: the loss counts whatever the fate, also at a copy, where no receiver tells one.

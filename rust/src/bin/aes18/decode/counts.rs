@@ -53,8 +53,7 @@ impl Counts {
 
     /// The packets of each circuit, by number, and its figures in the totals.
     pub fn circuits(&self) -> impl Iterator<Item = (&Packets, Figures)> {
-        let figures = |number| self.totals.circuit(number).unwrap_or_default();
-        self.circuits.iter().zip((0..).map(figures))
+        self.circuits.iter().zip(self.totals.circuits())
     }
 }
 

@@ -90,16 +90,15 @@ mod tests {
             copies: 2,
             wrong: 3,
         };
-        let most = u32::MAX;
         let figures = Figures {
-            messages: most,
-            bytes: most,
-            lost: most,
-            orphaned: most,
+            messages: u32::MAX,
+            bytes: u32::MAX - 1,
+            lost: u32::MAX - 2,
+            orphaned: u32::MAX - 3,
         };
         assert_eq!(
             row(&packets, figures),
-            "FE:FF            1         2 4294967295 4294967295 4294967295 4294967295         3"
+            "FE:FF            1         2 4294967293 4294967295 4294967294 4294967292         3"
         );
     }
 }

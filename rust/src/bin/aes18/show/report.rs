@@ -114,16 +114,15 @@ mod tests {
             held: 4,
             wrong: 5,
         };
-        let most = u32::MAX;
         let figures = Figures {
-            messages: most,
-            bytes: most,
-            lost: most,
-            orphaned: most,
+            messages: u32::MAX,
+            bytes: u32::MAX - 1,
+            lost: u32::MAX - 2,
+            orphaned: u32::MAX - 3,
         };
         assert_eq!(
             row(&packets, figures),
-            "       1       2       3       4 4294967295  4294967295 4294967295       5 4294967295"
+            "       1       2       3       4 4294967295  4294967294 4294967292       5 4294967293"
         );
     }
 }

@@ -76,8 +76,7 @@ impl Tally {
 
     /// The packets of each circuit number and its figures in the totals.
     pub fn circuits(&self) -> impl Iterator<Item = (&Packets, Figures)> {
-        let figures = |number| self.totals.circuit(number).unwrap_or_default();
-        self.circuits.iter().zip((0..).map(figures))
+        self.circuits.iter().zip(self.totals.circuits())
     }
 }
 

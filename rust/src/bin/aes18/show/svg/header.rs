@@ -10,7 +10,7 @@ use super::super::words::Words;
 use super::sheet::{EDGE, LEFT, ROW, TOP};
 
 /// Where the legend's columns are.
-const COLUMNS: [f64; 3] = [EDGE, EDGE + 680.0, EDGE + 980.0];
+const COLUMNS: [f64; 3] = [EDGE, EDGE + 750.0, EDGE + 1020.0];
 /// Where the legend's first line is, and from a line to the next.
 const LEGEND: usize = 66;
 const LINE: usize = 20;
