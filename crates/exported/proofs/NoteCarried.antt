@@ -72,7 +72,7 @@ unfolding NoticeInRange NoticeFits
 notice-fits End h = tt
 notice-fits Spoilt h = tt
 notice-fits Malformed h = tt
-notice-fits (System enable code n) h = omega (arith, h .length)
+notice-fits (System enable code n) h = omega (arith, h .information)
 notice-fits Elsewhere h = tt
 notice-fits (Circuit c loss fate) h = (omega (arith, h .number), fate-fits fate (h .fate))
 

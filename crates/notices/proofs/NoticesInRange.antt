@@ -49,7 +49,7 @@ pub record CircuitInRange (c l : ℕ) (f : Fate) : Type 0 where
 pub record SystemInRange (e c n : ℕ) : Type 0 where
   pub enable : e ≤ 15
   pub code : c ≤ 8
-  pub length : n ≤ 15
+  pub information : n ≤ 15
 
 unfoldable pub NoticeInRange : Notice → Type 0
 NoticeInRange End = Unit {0}
@@ -104,7 +104,7 @@ module _ (t : Slot) (p : List ℕ) where
 system-in-range : (slots : List Slot) (p : List ℕ) → malformed p ≡ false → address p ≡ 0xff → NoticeInRange (systemHeard slots p .notice)
 unfolding systemHeard NoticeInRange enable
 system-in-range slots p right there =
-    record { enable = omega arith; code = right-code p right there; length = right-information p right there }
+    record { enable = omega arith; code = right-code p right there; information = right-information p right there }
 
 module _ (cs : Circuits) (slots : List Slot) (range : slotsInRange (take (cs .count) slots) ≡ true) (few : cs .count ≤ 4) (p : List ℕ) (bytes : Bytes p) where
   circuit-in-range : (o : Option ℕ) → ((n : ℕ) → o ≡ some n → (n < 4) × (slotInRange (slotAt slots n) ≡ true)) → NoticeInRange (heardBy o slots p .notice)
