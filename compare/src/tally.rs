@@ -37,6 +37,14 @@ const FATES: [&str; 6] = ["Copy", "Begun", "Held", "Whole", "Orphan", "Wrong"];
 /// What else an answer that is noted can be.
 const ODD: [&str; 3] = ["no notice", "number above 3", "Whole of no bytes"];
 const FIGURES: [&str; 4] = ["messages", "bytes", "lost", "orphaned"];
+/// The run of ones that the first part of a frame cut in two leaves, and where the cut is.
+const RUNS: [&str; 5] = ["no ones", "one", "two ones", "three ones", "four ones"];
+const PLACES: [&str; 4] = [
+    "at an end",
+    "inside the packet",
+    "before the FCS",
+    "inside the FCS",
+];
 
 /// What was seen of demand 3.
 #[derive(Default)]
@@ -159,11 +167,46 @@ impl fmt::Display for Noted {
     }
 }
 
+/// What was seen of frames cut in two between their bytes.
+#[derive(Default)]
+pub struct Cuts {
+    runs: [u64; 5],
+    places: [u64; 4],
+}
+
+impl Cuts {
+    /// Counts a cut that leaves this run, with so many bytes before and behind it.
+    pub fn add(&mut self, run: usize, before: usize, behind: usize) {
+        self.runs[run] += 1;
+        let place = match (before, behind) {
+            (0, _) | (_, 0) => 0,
+            (_, 1) => 3,
+            (_, 2) => 2,
+            _ => 1,
+        };
+        self.places[place] += 1;
+    }
+
+    /// What a comparison that covers everything has seen, and this one has not.
+    fn missing(&self) -> impl Iterator<Item = String> + '_ {
+        let runs = unseen(&RUNS, &self.runs).map(|never| format!("cuts that leave {never}"));
+        runs.chain(unseen(&PLACES, &self.places).map(|never| format!("cuts {never}")))
+    }
+}
+
+impl fmt::Display for Cuts {
+    fn fmt(&self, out: &mut fmt::Formatter<'_>) -> fmt::Result {
+        let (runs, places) = (line(&RUNS, &self.runs), line(&PLACES, &self.places));
+        write!(out, "frames cut in two: {places}; ones left: {runs}")
+    }
+}
+
 #[derive(Default)]
 pub struct Tally {
     answers: BTreeMap<(Function, u32), u64>,
     notices: [u64; 6],
     fates: [u64; 6],
+    pub cuts: Cuts,
     pub noted: Noted,
     pub claim: Claim,
 }
@@ -202,6 +245,7 @@ impl Tally {
             .map(|(name, count, wanted)| format!("demand 3: {count} {name}, fewer than {wanted}"));
         answers
             .chain(notices)
+            .chain(self.cuts.missing())
             .chain(self.noted.missing())
             .chain(few)
             .collect()
@@ -240,6 +284,7 @@ impl fmt::Display for Tally {
         }
         writeln!(out, "notices: {}", line(&NOTICES, &self.notices))?;
         writeln!(out, "fates: {}", line(&FATES, &self.fates))?;
+        writeln!(out, "{}", self.cuts)?;
         writeln!(out, "{}", self.noted)?;
         write!(out, "{}", self.claim)
     }

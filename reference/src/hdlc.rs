@@ -1,4 +1,4 @@
-//! 01, "Frames and bits": the FCS, stuffing, flags and bodies.
+//! 01, "Frames and bits": the FCS, stuffing, flags and bodies. 02, ask 2: stuffing cut between bytes.
 
 use crate::bits::{bits_of, bytes_of};
 use std::ops::Range;
@@ -40,6 +40,24 @@ pub fn stuff(bits: &[bool]) -> Vec<bool> {
             ones = 0;
         }
     }
+    stuffed
+}
+
+/// The number of ones at the end of the bits.
+pub fn run_left(bits: &[bool]) -> usize {
+    bits.iter().rev().take_while(|bit| **bit).count()
+}
+
+/// The bits stuffed on from a run of up to four ones before them: both are stuffed, and the run is taken off again.
+pub fn stuff_on(run: usize, bits: &[bool]) -> Vec<bool> {
+    stuff(&[&vec![true; run], bits].concat()).split_off(run)
+}
+
+/// The first part stuffed, and behind it the rest stuffed on from the run of ones that it left.
+pub fn stuff_in_two(first: &[u8], rest: &[u8]) -> Vec<bool> {
+    let mut stuffed = stuff(&bits_of(first));
+    let run = run_left(&stuffed);
+    stuffed.extend(stuff_on(run, &bits_of(rest)));
     stuffed
 }
 

@@ -1,9 +1,10 @@
-//! A sender from its listing on: offers and blocks, refused ones among them.
+//! A sender from its listing on: offers and blocks, refused ones among them; the frames of each block cut in two.
 
 use crate::both::{Both, Compared};
 use crate::ends::Sending;
 use crate::inputs;
 use crate::random::Random;
+use crate::trials::cuts;
 use aes18_reference::calls::OfferCall;
 
 pub fn run(both: &mut Both, random: &mut Random) -> Compared<()> {
@@ -39,6 +40,8 @@ fn block(both: &mut Both, random: &mut Random, sending: &mut Sending) -> Compare
     let information = inputs::information(random);
     let call = inputs::block_call(random, &information);
     let mut buffer = inputs::buffer(random, call.n);
-    sending.block(both, call, &mut buffer)?;
-    Ok(())
+    match sending.block(both, call, &mut buffer)? {
+        Some(made) => cuts::frames(both, &buffer, &made),
+        None => Ok(()),
+    }
 }

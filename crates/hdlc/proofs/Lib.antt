@@ -7,3 +7,4 @@ pub mod Ending
 pub mod PenAfter
 pub mod InTurn
 pub mod FrameLength
+pub mod StuffedInTwo

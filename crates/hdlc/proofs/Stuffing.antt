@@ -12,17 +12,18 @@ use Rattle.hdlc.specs.Stuffing.{stuffFrom, roomAfter, stuff, unstuffFrom
 use Rattle.hdlc.specs.Bodies.{holds}
 use Rattle.hdlc.proofs.NoSix.{NoSix, NoSix-holds}
 
--- a stuffed body "does not end in five" ones, where n ones stand before it
-endOnes-stuffFrom : (bs : List Bool) (room n : ℕ) → n + room ≡ 4 → endOnes (stuffFrom bs room) n < 5
-unfolding stuffFrom endOnes
-endOnes-stuffFrom [] room n e = omega arith
-endOnes-stuffFrom (false ∷ bs) room n e = endOnes-stuffFrom bs 4 0 refl
-endOnes-stuffFrom (true ∷ bs) zero n e = endOnes-stuffFrom bs 4 0 refl
-endOnes-stuffFrom (true ∷ bs) (suc room) n e = endOnes-stuffFrom bs room (suc n) (omega arith)
+-- the room behind bits and the ones that end them, stuffed, make four, where n ones stand before them
+pub roomAfter-endOnes : (bs : List Bool) (room n : ℕ) → n + room ≡ 4 → endOnes (stuffFrom bs room) n + roomAfter bs room ≡ 4
+unfolding stuffFrom endOnes roomAfter
+roomAfter-endOnes [] room n e = e
+roomAfter-endOnes (false ∷ bs) room n e = roomAfter-endOnes bs 4 0 refl
+roomAfter-endOnes (true ∷ bs) zero n e = roomAfter-endOnes bs 4 0 refl
+roomAfter-endOnes (true ∷ bs) (suc room) n e = roomAfter-endOnes bs room (suc n) (omega arith)
 
+-- a stuffed body "does not end in five" ones
 pub stuff-no-five-end : (bs : List Bool) → ltb (endOnes (stuff bs) 0) 5 ≡ true
 unfolding stuff
-stuff-no-five-end bs = lt-ltb (endOnes (stuffFrom bs 4) 0) 5 (endOnes-stuffFrom bs 4 0 refl)
+stuff-no-five-end bs = lt-ltb (endOnes (stuffFrom bs 4) 0) 5 (omega (arith, roomAfter-endOnes bs 4 0 refl))
 
 -- unstuffing gives the bits back
 unstuffFrom-stuffFrom : (bs : List Bool) (room : ℕ) → unstuffFrom (stuffFrom bs room) (suc room) ≡ bs

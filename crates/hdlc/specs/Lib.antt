@@ -4,3 +4,4 @@ pub mod Frames
 pub mod Bodies
 pub mod Writing
 pub mod Counting
+pub mod Cuts

@@ -6,6 +6,7 @@ ghost use Rattle.hdlc.specs.Frames.{flag, frame};
 ghost use Rattle.hdlc.specs.Writing.{Room, Written, Put, Stuffed, stuffedBy, ending};
 
 pub mod counting;
+mod cuts;
 
 // Where the next bit of a frame goes, how many ones may come before the one behind which a 0 is stuffed, and the FCS register.
 pub struct Pen {

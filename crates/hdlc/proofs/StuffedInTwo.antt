@@ -1,0 +1,48 @@
+-- Bytes stuffed in two parts are stuffed as one: the run of ones in between is told by the first part's bits, and a pen holds it.
+use Prim.Native.Nat.{ℕ, _+_, _-_}
+use native.Mathlib.Omega.{arith}
+use mathlib.Core.Bool.{Bool}
+use mathlib.Core.List.{List, [], _∷_, _++_}
+use mathlib.Core.Path.{_≡_, refl, sym, ap, _∙_}
+use lib.ListN.{take, drop, take-append-drop}
+use Rattle.bits.specs.Bits.{odd, lowBits, byteBits, bitsOf}
+use Rattle.bits.proofs.Bits.{bitsOf-append}
+use Rattle.hdlc.specs.Stuffing.{stuffFrom, roomAfter, stuff, endOnes}
+use Rattle.hdlc.specs.Frames.{withFcs, frame}
+use Rattle.hdlc.specs.Writing.{stuffedBy, penAfter}
+use Rattle.hdlc.specs.Cuts.{stuffOn, runLeft, stuffedInTwo, CutBetweenBytes}
+use Rattle.hdlc.proofs.Stuffing.{stuffFrom-append, roomAfter-endOnes}
+
+-- bits stuffed on from a run are stuffed with the room that makes four with it
+stuffOn-room : (run room : ℕ) (bits : List Bool) → run + room ≡ 4 → stuffOn run bits ≡ stuffFrom bits room
+unfolding stuffOn
+stuffOn-room run room bits e =
+    let f : 4 - run ≡ room = omega arith in
+    ap (stuffFrom bits) f
+
+in-two : (first rest : List ℕ) → stuffedInTwo first rest ≡ stuff (bitsOf (first ++ rest))
+unfolding stuffedInTwo runLeft stuff
+in-two first rest =
+    rw (bitsOf-append first rest, stuffFrom-append (bitsOf first) (bitsOf rest) 4)
+    (ap (λ (r : List Bool). stuffFrom (bitsOf first) 4 ++ r)
+    (stuffOn-room (endOnes (stuffFrom (bitsOf first) 4) 0) (roomAfter (bitsOf first) 4) (bitsOf rest)
+    (roomAfter-endOnes (bitsOf first) 4 0 refl)))
+
+frame-in-two : (packet : List ℕ) (k : ℕ) → stuffedInTwo (take k (withFcs packet)) (drop k (withFcs packet)) ≡ frame packet
+unfolding frame
+frame-in-two packet k = in-two (take k (withFcs packet)) (drop k (withFcs packet)) ∙ rw take-append-drop
+
+pub cut-between-bytes : CutBetweenBytes
+unfolding stuffedBy penAfter
+cut-between-bytes =
+    record {
+      whole = in-two;
+      frames = frame-in-two;
+      goes-on = λ pen run bytes e. sym (stuffOn-room run (pen .room) (bitsOf bytes) e);
+      leaves = λ pen run bytes e. roomAfter-endOnes (bitsOf bytes) (pen .room) run e;
+    }
+
+-- closed cases: FF hex leaves the three ones behind its stuffed zero, F0 hex four, F8 hex none
+pub runs-left : (runLeft (0xff ∷ []) ≡ 3) × (runLeft (0xf0 ∷ []) ≡ 4) × (runLeft (0xf8 ∷ []) ≡ 0)
+unfolding runLeft stuff stuffFrom endOnes bitsOf byteBits lowBits odd
+runs-left = (refl, refl, refl)
