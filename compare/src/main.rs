@@ -10,6 +10,7 @@ mod inputs;
 mod library;
 mod random;
 mod stream;
+mod stuffing;
 mod tally;
 mod trials;
 

@@ -37,14 +37,9 @@ const FATES: [&str; 6] = ["Copy", "Begun", "Held", "Whole", "Orphan", "Wrong"];
 /// What else an answer that is noted can be.
 const ODD: [&str; 3] = ["no notice", "number above 3", "Whole of no bytes"];
 const FIGURES: [&str; 4] = ["messages", "bytes", "lost", "orphaned"];
-/// The run of ones that the first part of a frame cut in two leaves, and where the cut is.
-const RUNS: [&str; 5] = ["no ones", "one", "two ones", "three ones", "four ones"];
-const PLACES: [&str; 4] = [
-    "at an end",
-    "inside the packet",
-    "before the FCS",
-    "inside the FCS",
-];
+/// Where a frame is cut in two, and how many ones its first part leaves.
+const PLACES: [&str; 3] = ["inside the packet", "before the FCS", "inside the FCS"];
+const RUNS: [&str; 5] = ["none", "one", "two", "three", "four"];
 
 /// What was seen of demand 3.
 #[derive(Default)]
@@ -167,37 +162,37 @@ impl fmt::Display for Noted {
     }
 }
 
-/// What was seen of frames cut in two between their bytes.
+/// What was seen of frames cut in two between their bytes: the cuts at each place, by the run of ones that the first part leaves.
 #[derive(Default)]
-pub struct Cuts {
-    runs: [u64; 5],
-    places: [u64; 4],
-}
+pub struct Cuts([[u64; 5]; 3]);
 
 impl Cuts {
-    /// Counts a cut that leaves this run, with so many bytes before and behind it.
-    pub fn add(&mut self, run: usize, before: usize, behind: usize) {
-        self.runs[run] += 1;
-        let place = match (before, behind) {
-            (0, _) | (_, 0) => 0,
-            (_, 1) => 3,
-            (_, 2) => 2,
-            _ => 1,
+    /// Counts a cut that leaves a run; one before the first byte or behind the last cuts nothing.
+    pub fn add(&mut self, run: usize, first: &[u8], rest: &[u8]) {
+        let place = match rest.len() {
+            0 => return,
+            1 => 2,
+            2 => 1,
+            _ => 0,
         };
-        self.places[place] += 1;
+        self.0[place][run] += u64::from(!first.is_empty());
     }
 
     /// What a comparison that covers everything has seen, and this one has not.
     fn missing(&self) -> impl Iterator<Item = String> + '_ {
-        let runs = unseen(&RUNS, &self.runs).map(|never| format!("cuts that leave {never}"));
-        runs.chain(unseen(&PLACES, &self.places).map(|never| format!("cuts {never}")))
+        PLACES.iter().zip(&self.0).flat_map(|(place, runs)| {
+            unseen(&RUNS, runs).map(move |never| format!("ones left by a cut {place}: {never}"))
+        })
     }
 }
 
 impl fmt::Display for Cuts {
     fn fmt(&self, out: &mut fmt::Formatter<'_>) -> fmt::Result {
-        let (runs, places) = (line(&RUNS, &self.runs), line(&PLACES, &self.places));
-        write!(out, "frames cut in two: {places}; ones left: {runs}")
+        let places = PLACES.iter().zip(&self.0);
+        let parts: Vec<String> = places
+            .map(|(place, runs)| format!("{place}: {}", line(&RUNS, runs)))
+            .collect();
+        write!(out, "ones left by a cut {}", parts.join("; "))
     }
 }
 

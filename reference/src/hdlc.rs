@@ -1,4 +1,4 @@
-//! 01, "Frames and bits": the FCS, stuffing, flags and bodies. 02, ask 2: stuffing cut between bytes.
+//! 01, "Frames and bits": the FCS, stuffing, flags and bodies. 02, ask 2: bytes stuffed in two parts.
 
 use crate::bits::{bits_of, bytes_of};
 use std::ops::Range;
@@ -43,9 +43,10 @@ pub fn stuff(bits: &[bool]) -> Vec<bool> {
     stuffed
 }
 
-/// The number of ones at the end of the bits.
-pub fn run_left(bits: &[bool]) -> usize {
-    bits.iter().rev().take_while(|bit| **bit).count()
+/// The run of ones that a first part leaves: those at the end of its stuffed bits.
+pub fn run_left(first: &[u8]) -> usize {
+    let stuffed = stuff(&bits_of(first));
+    stuffed.iter().rev().take_while(|bit| **bit).count()
 }
 
 /// The bits stuffed on from a run of up to four ones before them: both are stuffed, and the run is taken off again.
@@ -54,10 +55,9 @@ pub fn stuff_on(run: usize, bits: &[bool]) -> Vec<bool> {
 }
 
 /// The first part stuffed, and behind it the rest stuffed on from the run of ones that it left.
-pub fn stuff_in_two(first: &[u8], rest: &[u8]) -> Vec<bool> {
+pub fn stuffed_in_two(first: &[u8], rest: &[u8]) -> Vec<bool> {
     let mut stuffed = stuff(&bits_of(first));
-    let run = run_left(&stuffed);
-    stuffed.extend(stuff_on(run, &bits_of(rest)));
+    stuffed.extend(stuff_on(run_left(first), &bits_of(rest)));
     stuffed
 }
 

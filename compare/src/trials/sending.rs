@@ -1,10 +1,10 @@
-//! A sender from its listing on: offers and blocks, refused ones among them; the frames of each block cut in two.
+//! A sender from its listing on: offers and blocks, refused ones among them. The frames of each block are cut in two between their bytes.
 
 use crate::both::{Both, Compared};
 use crate::ends::Sending;
 use crate::inputs;
 use crate::random::Random;
-use crate::trials::cuts;
+use crate::stuffing;
 use aes18_reference::calls::OfferCall;
 
 pub fn run(both: &mut Both, random: &mut Random) -> Compared<()> {
@@ -41,7 +41,7 @@ fn block(both: &mut Both, random: &mut Random, sending: &mut Sending) -> Compare
     let call = inputs::block_call(random, &information);
     let mut buffer = inputs::buffer(random, call.n);
     match sending.block(both, call, &mut buffer)? {
-        Some(made) => cuts::frames(both, &buffer, &made),
+        Some(made) => stuffing::in_two(both, &buffer, &made),
         None => Ok(()),
     }
 }

@@ -1,4 +1,4 @@
--- Bytes stuffed in two parts are stuffed as one: the run of ones in between is told by the first part's bits, and a pen holds it.
+-- Bytes stuffed in two parts are stuffed as one: the run of ones in between is told by the first part's stuffed bits, and the pen that it leaves goes on from it.
 use Prim.Native.Nat.{ℕ, _+_, _-_}
 use native.Mathlib.Omega.{arith}
 use mathlib.Core.Bool.{Bool}
@@ -11,6 +11,7 @@ use Rattle.hdlc.specs.Stuffing.{stuffFrom, roomAfter, stuff, endOnes}
 use Rattle.hdlc.specs.Frames.{withFcs, frame}
 use Rattle.hdlc.specs.Writing.{stuffedBy, penAfter}
 use Rattle.hdlc.specs.Cuts.{stuffOn, runLeft, stuffedInTwo, CutBetweenBytes}
+use Rattle.hdlc.specs.declared.Pen.{Pen}
 use Rattle.hdlc.proofs.Stuffing.{stuffFrom-append, roomAfter-endOnes}
 
 -- bits stuffed on from a run are stuffed with the room that makes four with it
@@ -20,27 +21,30 @@ stuffOn-room run room bits e =
     let f : 4 - run ≡ room = omega arith in
     ap (stuffFrom bits) f
 
+-- so behind a first part, with the room that it leaves
+stuffOn-runLeft : (first rest : List ℕ) → stuffOn (runLeft first) (bitsOf rest) ≡ stuffFrom (bitsOf rest) (roomAfter (bitsOf first) 4)
+unfolding runLeft stuff
+stuffOn-runLeft first rest =
+    stuffOn-room (endOnes (stuffFrom (bitsOf first) 4) 0) (roomAfter (bitsOf first) 4) (bitsOf rest)
+    (roomAfter-endOnes (bitsOf first) 4 0 refl)
+
 in-two : (first rest : List ℕ) → stuffedInTwo first rest ≡ stuff (bitsOf (first ++ rest))
-unfolding stuffedInTwo runLeft stuff
+unfolding stuffedInTwo stuff
 in-two first rest =
     rw (bitsOf-append first rest, stuffFrom-append (bitsOf first) (bitsOf rest) 4)
-    (ap (λ (r : List Bool). stuffFrom (bitsOf first) 4 ++ r)
-    (stuffOn-room (endOnes (stuffFrom (bitsOf first) 4) 0) (roomAfter (bitsOf first) 4) (bitsOf rest)
-    (roomAfter-endOnes (bitsOf first) 4 0 refl)))
+    (ap (λ (r : List Bool). stuffFrom (bitsOf first) 4 ++ r) (stuffOn-runLeft first rest))
 
 frame-in-two : (packet : List ℕ) (k : ℕ) → stuffedInTwo (take k (withFcs packet)) (drop k (withFcs packet)) ≡ frame packet
 unfolding frame
 frame-in-two packet k = in-two (take k (withFcs packet)) (drop k (withFcs packet)) ∙ rw take-append-drop
 
-pub cut-between-bytes : CutBetweenBytes
+pen-in-two : (pen : Pen) (first rest : List ℕ) → pen .room ≡ 4
+    → stuffedBy (penAfter pen (bitsOf first)) (bitsOf rest) ≡ stuffOn (runLeft first) (bitsOf rest)
 unfolding stuffedBy penAfter
-cut-between-bytes =
-    record {
-      whole = in-two;
-      frames = frame-in-two;
-      goes-on = λ pen run bytes e. sym (stuffOn-room run (pen .room) (bitsOf bytes) e);
-      leaves = λ pen run bytes e. roomAfter-endOnes (bitsOf bytes) (pen .room) run e;
-    }
+pen-in-two pen first rest e = rw e (sym (stuffOn-runLeft first rest))
+
+pub cut-between-bytes : CutBetweenBytes
+cut-between-bytes = record { whole = in-two; frames = frame-in-two; pens = pen-in-two }
 
 -- closed cases: FF hex leaves the three ones behind its stuffed zero, F0 hex four, F8 hex none
 pub runs-left : (runLeft (0xff ∷ []) ≡ 3) × (runLeft (0xf0 ∷ []) ≡ 4) × (runLeft (0xf8 ∷ []) ≡ 0)

@@ -1,6 +1,6 @@
 -- What zero bit insertion keeps: stuffed bits do not end in five ones and hold no six in a row, unstuffing gives the bits
 -- back, n bits grow by at most n / 5, and bits may be stuffed and unstuffed piece by piece.
-use Prim.Native.Nat.{ℕ, zero, suc, _+_, _-_, _*_, _/_, _≤_, _<_}
+use Prim.Native.Nat.{ℕ, zero, suc, _+_, _-_, _*_, _/_, _≤_}
 use native.Mathlib.Omega.{arith}
 use mathlib.Core.Bool.{Bool, true, false}
 use mathlib.Core.List.{List, [], _∷_, _++_}

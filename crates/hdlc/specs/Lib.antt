@@ -1,4 +1,4 @@
--- The definitions of `hdlc`: stuffing, frames, flags and bodies, and what a writer's contract says.
+-- The definitions of `hdlc`: stuffing, frames, flags and bodies, what a writer's contract says, and bytes stuffed in two parts.
 pub mod Stuffing
 pub mod Frames
 pub mod Bodies
