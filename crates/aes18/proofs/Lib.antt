@@ -3,3 +3,4 @@ pub mod Clipping
 pub mod SenderOutcomes
 pub mod ReceiverOutcomes
 pub mod TotalsOutcomes
+pub mod LineOutcomes

@@ -3,3 +3,4 @@ pub mod Room
 pub mod SenderCalls
 pub mod ReceiverCalls
 pub mod TotalsCalls
+pub mod LineCalls

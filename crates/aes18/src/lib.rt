@@ -1,20 +1,24 @@
-// The AES18 user-bit channel for C and Rust: the calls of document 01, and pass totals (document 02, ask 1), over records and answers laid out in bytes
-// (include/aes18.h).
+// The AES18 user-bit channel for C and Rust: the calls of document 01, pass totals and the serial line (document 02, asks 1 and 3), over records and answers
+// laid out in bytes (include/aes18.h).
 
 use layout::answer_number;
 use layout::clipped;
+use layout::put_number;
 use offering::Sender;
 use receiver::Read;
 use receiver::Receiver;
 use sender::Made;
 use sender::blocks::make_block;
+use serial::Written;
+use serial::writing::write;
 ghost use mathlib.Core.Path.{_≡_};
 ghost use Rattle.aes18.specs.SenderCalls as sends;
 ghost use Rattle.aes18.specs.SenderCalls.{systemAsked};
 ghost use Rattle.aes18.specs.ReceiverCalls as receives;
 ghost use Rattle.aes18.specs.TotalsCalls.{noteAnswered, noteRecord};
+ghost use Rattle.aes18.specs.LineCalls as lines;
 
-// The answer where a record or an answer is shorter than it has to be.
+// The answer where a record, a packet's place or an answer is shorter than it has to be.
 const NO_ROOM: u32 = 255;
 
 // A sender's record, for the circuits of a list.
@@ -184,5 +188,57 @@ pub extern "C" fn aes18_totals_note(record: &mut [u8], answer: &[u8]) -> u32
     let totals = totals_layout::totals_in(record);
     let after = totals_layout::answers::note(totals, answer);
     totals_layout::put_totals(record, after);
+    0
+}
+
+// A packet is written as a frame of the serial line.
+#[no_mangle]
+pub extern "C" fn aes18_line_write(packet: &[u8], line: &mut [u8], answer: &mut [u8]) -> u32
+    ensures { λ r. ⌜ (r ≡ lines.writeAnswered (now (packet .entry)) (now (line .entry)) (now (answer .entry)))
+        × (now (line .exit) ≡ lines.writeLine (now (packet .entry)) (now (line .entry)) (now (answer .entry)))
+        × (now (answer .exit) ≡ lines.writeAnswer (now (packet .entry)) (now (line .entry)) (now (answer .entry))) ⌝ }
+{
+    if answer.len() < serial_layout::WRITE_ANSWER {
+        return NO_ROOM;
+    }
+    match write(packet, line) {
+        Written::Frame(n) => {
+            put_number(answer, 0, serial_layout::WRITE_ANSWER, n);
+            0
+        }
+        Written::Refused(number) => number as u32,
+    }
+}
+
+// The bytes of a serial line are read until the first packet.
+#[no_mangle]
+pub extern "C" fn aes18_line_read(
+    record: &mut [u8],
+    line: &[u8],
+    packet: &mut [u8],
+    answer: &mut [u8],
+) -> u32
+    ensures { λ r. ⌜ (r ≡ lines.readAnswered (now («record» .entry)) (now (packet .entry)) (now (answer .entry)))
+        × (now («record» .exit) ≡ lines.readRecord (now («record» .entry)) (now (line .entry)) (now (packet .entry)) (now (answer .entry)))
+        × (now (packet .exit) ≡ lines.readPacket (now («record» .entry)) (now (line .entry)) (now (packet .entry)) (now (answer .entry)))
+        × (now (answer .exit) ≡ lines.readAnswer (now («record» .entry)) (now (line .entry)) (now (packet .entry)) (now (answer .entry))) ⌝ }
+{
+    if record.len() < serial_layout::LENGTH {
+        return NO_ROOM;
+    }
+    if packet.len() < serial_layout::PACKET {
+        return NO_ROOM;
+    }
+    if answer.len() < serial_layout::READ_ANSWER {
+        return NO_ROOM;
+    }
+    let reading = serial_layout::line_in(record).read(line);
+    let after = reading.line;
+    let frame = reading.frame;
+    let length = reading.length;
+    let read = reading.read;
+    serial_layout::put_line(record, after);
+    serial_layout::put_packet(packet, frame, length);
+    serial_layout::put_read_answer(answer, length, read);
     0
 }

@@ -6,15 +6,15 @@ use mathlib.Core.List.{List, [], _∷_, _++_}
 use mathlib.Core.Option.{some}
 use mathlib.Core.Path.{_≡_, _∙_}
 use native.Mathlib.Omega.{arith}
-use lib.ListN.{length, getD, length-append}
-use lib.Seq.{take-append-seam, getD-append-seam, getD-append-add}
-use borrow.Author.Tests.{lt-ltb, le-leb, eq-eqb}
+use lib.ListN.{length}
+use borrow.Author.Tests.{lt-ltb, le-leb}
 use Rattle.bits.specs.Bits.{bitsOf, bytesOf, Bytes}
 use Rattle.bits.proofs.Bits.{length-bitsOf, bytesOf-bitsOf, Bytes-append}
 use Rattle.fcs.specs.Fcs.{fcsOf, lowFirst}
-use Rattle.fcs.proofs.Laws.{fcsOf-lt, lowFirst-Bytes, lowFirst-value}
+use Rattle.fcs.proofs.Laws.{fcsOf-lt, lowFirst-Bytes}
 use Rattle.hdlc.specs.Frames.{flag, withFcs, frame}
-use Rattle.hdlc.specs.Bodies.{passes, fcsRight, passing, packet, judgeBits}
+use Rattle.hdlc.specs.Bodies.{passes, passing, judgeBits}
+use Rattle.hdlc.proofs.WithFcs.{length-withFcs, packet-withFcs, fcsRight-withFcs}
 use Rattle.framing.specs.declared.Framing.{Framing}
 use Rattle.framing.specs.Machine.{empty, phaseAfter, run}
 use Rattle.framing.specs.Closings.{atMost168, closings}
@@ -26,29 +26,9 @@ use Rattle.framing.proofs.Stuffed.{closings-stuff-flag}
 -- ---- a packet with its FCS passes
 
 -- its bytes
-length-withFcs : (p : List ℕ) → length (withFcs p) ≡ length p + 2
-unfolding withFcs lowFirst
-length-withFcs p = length-append p (lowFirst (fcsOf p))
-
 Bytes-withFcs : (p : List ℕ) → Bytes p → Bytes (withFcs p)
 unfolding withFcs
 Bytes-withFcs p h = Bytes-append p (lowFirst (fcsOf p)) h (lowFirst-Bytes (fcsOf p) (fcsOf-lt p))
-
--- the packet is before the FCS, which is right
-packet-withFcs : (p : List ℕ) → packet (withFcs p) ≡ p
-unfolding packet withFcs
-packet-withFcs p =
-    let e : length (withFcs p) - 2 ≡ length p = omega (arith, length-withFcs p) in
-    rw e (take-append-seam p (lowFirst (fcsOf p)))
-
-fcsRight-withFcs : (p : List ℕ) → fcsRight (withFcs p) ≡ true
-unfolding fcsRight withFcs lowFirst
-fcsRight-withFcs p =
-    let e : length (withFcs p) - 2 ≡ length p = omega (arith, length-withFcs p) in
-    let low : getD (withFcs p) (length p) 0 ≡ fcsOf p % 256 = getD-append-seam p (fcsOf p % 256) (fcsOf p / 256 ∷ []) 0 in
-    let high : getD (withFcs p) (length p + 1) 0 ≡ fcsOf p / 256 = getD-append-add p (lowFirst (fcsOf p)) 1 0 in
-    rw (e, take-append-seam p (lowFirst (fcsOf p)), low, high)
-    (eq-eqb (fcsOf p % 256 + 256 * (fcsOf p / 256)) (fcsOf p) (lowFirst-value (fcsOf p)))
 
 -- behind fewer than five ones the bits pass, and give the packet
 passing-withFcs : (ones : ℕ) (p : List ℕ) → ones < 5 → Bytes p → 2 ≤ length p → length p ≤ 19 →

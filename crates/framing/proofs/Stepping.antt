@@ -7,13 +7,13 @@ use mathlib.Core.Path.{_≡_, refl, sym, _∙_}
 use native.Mathlib.Omega.{arith}
 use borrow.Author.Tests.{lt-ltb, le-leb, lt-leb, eq-eqb, ne-eqb}
 use lib.ListN.{length, take, drop, getD, replicate, length-append, length-replicate}
-use lib.Seq.{sets, length-take-le, getD-take, take-take}
+use lib.Seq.{sets}
 use lib.Dec.{eqb, leb}
 use Rattle.bits.specs.Bits.{bitsOf, Bytes}
 use Rattle.bits.proofs.Bits.{fillBytes-bitsOf}
 use Rattle.bits.proofs.Lists.{sets-append}
 use Rattle.fcs.specs.Fcs.{fcsOf}
-use Rattle.hdlc.specs.Bodies.{fcsRight}
+use Rattle.hdlc.proofs.WithFcs.{fcsRight-take}
 use Rattle.framing.specs.declared.Framing.{Framing}
 use Rattle.framing.specs.declared.Check.the-variants.{Packet, Spoilt, Nothing}
 use Rattle.framing.specs.declared.Whole.{Whole}
@@ -67,21 +67,6 @@ module _ (f : Framing) (p m : ℕ) (hp : p ≡ phaseAfter (f .ones)) (hm : m ≡
   keep-full h = rw (count-held, lt-leb _ _ h, hp)
 
 -- ---- the body check
-
--- the FCS of the first n bytes, read where it stands among all of them
-fcsRight-take : (n : ℕ) (bytes : List ℕ) → 2 ≤ n → n ≤ length bytes
-    → fcsRight (take n bytes) ≡ eqb (getD bytes (n - 2) 0 + 256 * getD bytes (n - 2 + 1) 0) (fcsOf (take (n - 2) bytes))
-unfolding fcsRight
-fcsRight-take n bytes h l =
-    let a : n - 2 < n = omega arith in
-    let b : n - 2 + 1 < n = omega arith in
-    let c : n - 2 ≤ n = omega arith in
-    rw (
-      length-take-le n bytes l,
-      getD-take n bytes (n - 2) 0 a,
-      getD-take n bytes (n - 2 + 1) 0 b,
-      take-take (n - 2) n bytes c,
-    )
 
 -- a body of the right length passes exactly if its FCS is right
 module _ (f : Framing) (r : ℕ) (three : f .phase ≡ 3) (lo : 32 ≤ f .count) (hi : f .count ≤ 168) (bytes : f .count % 8 ≡ 0)

@@ -6,15 +6,11 @@ use native.Mathlib.Omega.{arith}
 use lib.ListN.{length, length-append}
 use Rattle.bits.specs.Bits.{bitsOf}
 use Rattle.bits.proofs.Bits.{length-bitsOf}
-use Rattle.fcs.specs.Fcs.{lowFirst}
 use Rattle.hdlc.specs.Frames.{flag, withFcs, frame}
 use Rattle.hdlc.specs.Writing.{Room}
 use Rattle.hdlc.proofs.Stuffing.{length-stuff}
 use Rattle.hdlc.proofs.Ending.{length-flag}
-
-length-withFcs : (p : List ℕ) → length (withFcs p) ≡ length p + 2
-unfolding withFcs lowFirst
-length-withFcs p = rw length-append
+use Rattle.hdlc.proofs.WithFcs.{length-withFcs}
 
 pub length-frame : (p : List ℕ) → length (frame p) ≤ 8 * (length p + 2) + 8 * (length p + 2) / 5
 unfolding frame

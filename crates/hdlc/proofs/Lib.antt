@@ -1,4 +1,4 @@
--- The laws of `hdlc`: stuffing, and writing piece by piece.
+-- The laws of `hdlc`: stuffing, writing piece by piece, and a packet with its FCS.
 pub mod NoSix
 pub mod Stuffing
 pub mod Writing
@@ -6,5 +6,6 @@ pub mod OneBit
 pub mod Ending
 pub mod PenAfter
 pub mod InTurn
+pub mod WithFcs
 pub mod FrameLength
 pub mod StuffedInTwo

@@ -1,0 +1,116 @@
+-- What is written is read back: packets, and the packets of writing calls.
+use Prim.Native.Nat.{ℕ, _+_, _*_, _≤_}
+use mathlib.Core.Bool.{Bool, true, false, cond, _&&_, true≢false}
+use mathlib.Core.List.{List, [], _∷_, _++_, map, flatten, append-assoc}
+use mathlib.Core.Option.{some}
+use mathlib.Core.Path.{_≡_, refl, sym, ap, _∙_}
+use native.Mathlib.Omega.{arith}
+use borrow.Author.Tests.{leb-true}
+use lib.ListN.{length, take, drop, length-append}
+use lib.Seq.{sets, take-append-seam}
+use lib.Dec.{leb, eqb}
+use Rattle.bits.proofs.Lists.{sets-behind}
+use Rattle.hdlc.specs.Frames.{withFcs}
+use Rattle.hdlc.specs.Bodies.{packet}
+use Rattle.hdlc.proofs.WithFcs.{length-withFcs, packet-withFcs, fcsRight-withFcs}
+use Rattle.serial.specs.declared.Written.the-variants.{Frame, Refused}
+use Rattle.serial.specs.Octets.{flag, escapedBytes, lineFrame, lineOf, fits}
+use Rattle.serial.specs.Writing.{worstCase, writeRefusal, writeAnswer, outputAfter, WriteCall, bytesOf, sent, packetsSent}
+use Rattle.serial.specs.Frames.{hasFlag, pieces, butLast, between, unescapedFrom, unescaped, passing, given, packetsIn}
+use Rattle.serial.specs.SerialLine.{allFit}
+use Rattle.serial.proofs.Escaping.{length-escapedBytes}
+use Rattle.serial.proofs.Stepping.{passing-short}
+use Rattle.serial.proofs.Pieces.{packetsIn-resync, packetsIn-open, packetsIn-frame}
+use Rattle.serial.proofs.Unescaping.{hasFlag-escapedBytes, unescaped-escapedBytes}
+
+-- ---- flags in a row
+
+flags-alone : packetsIn (flag ∷ flag ∷ []) ≡ []
+unfolding hasFlag unescaped unescapedFrom given
+flags-alone = packetsIn-frame [] refl ∙ rw (passing-short [] (omega arith))
+
+pub two-flags : (ys : List ℕ) → packetsIn (flag ∷ flag ∷ ys) ≡ packetsIn (flag ∷ ys)
+two-flags ys = packetsIn-resync (flag ∷ []) ys ∙ rw flags-alone
+
+-- ---- one frame
+
+packetsIn-lineFrame : (p : List ℕ) → fits p ≡ true → packetsIn (lineFrame p) ≡ p ∷ []
+unfolding lineFrame given passing
+packetsIn-lineFrame p f =
+    packetsIn-frame (escapedBytes (withFcs p)) (hasFlag-escapedBytes (withFcs p))
+    ∙ rw (unescaped-escapedBytes (withFcs p), fcsRight-withFcs p, packet-withFcs p, f)
+
+-- and bytes behind it
+packetsIn-behind : (p ys : List ℕ) → packetsIn (lineFrame p ++ ys) ≡ packetsIn (lineFrame p) ++ packetsIn (flag ∷ ys)
+unfolding lineFrame
+packetsIn-behind p ys =
+    let body = escapedBytes (withFcs p) in
+    ap (λ (l : List ℕ). packetsIn (flag ∷ l)) (append-assoc body (flag ∷ []) ys) ∙ packetsIn-resync (flag ∷ body) ys
+
+-- ---- a line
+
+no-bytes : packetsIn [] ≡ []
+unfolding packetsIn between pieces butLast flatten
+no-bytes = refl
+
+lineOf-flag : (ps : List (List ℕ)) → packetsIn (flag ∷ lineOf ps) ≡ packetsIn (lineOf ps)
+unfolding lineOf lineFrame flatten hasFlag
+lineOf-flag [] = packetsIn-open [] refl ∙ sym no-bytes
+lineOf-flag (p ∷ ps) = two-flags ((escapedBytes (withFcs p) ++ flag ∷ []) ++ flatten (map lineFrame ps))
+
+and-true : (s t : Bool) → (s && t) ≡ true → (s ≡ true) × (t ≡ true)
+and-true true t e = (refl, e)
+and-true false t e = absurd (true≢false (sym e))
+
+pub read-back : (ps : List (List ℕ)) → allFit ps ≡ true → packetsIn (lineOf ps) ≡ ps
+unfolding lineOf flatten allFit
+read-back [] f = no-bytes
+read-back (p ∷ ps) f =
+    let each = and-true (fits p) (allFit ps) f in
+    packetsIn-behind p (lineOf ps) ∙ rw (packetsIn-lineFrame p (each .0), lineOf-flag ps, read-back ps (each .1))
+
+-- ---- writing calls
+
+-- no frame is longer than the worst case
+pub length-lineFrame : (p : List ℕ) → length (lineFrame p) ≤ worstCase p
+unfolding lineFrame worstCase
+length-lineFrame p =
+    rw length-append (omega (arith, length-withFcs p, length-escapedBytes (withFcs p)))
+
+-- a call that is not refused
+module _ (p output : List ℕ) where
+  write-cases : (P : ℕ → Type 0) → (fits p ≡ true → worstCase p ≤ length output → P 0) → P 16 → P 17 → P (writeRefusal p output)
+  unfolding writeRefusal
+  write-cases P fine short outside = go (fits p) refl (leb (worstCase p) (length output)) refl
+    where
+      go : (s : Bool) → fits p ≡ s → (t : Bool) → leb (worstCase p) (length output) ≡ t → P (cond s (cond t 0 16) 17)
+      go true f true h = fine f (leb-true (worstCase p) (length output) h)
+      go true f false h = short
+      go false f t h = outside
+
+  -- what it wrote
+  bytes-written : worstCase p ≤ length output → take (length (lineFrame p)) (sets output 0 (lineFrame p)) ≡ lineFrame p
+  bytes-written h =
+      let room : length (lineFrame p) ≤ length output = omega (arith, length-lineFrame p) in
+      rw (sets-behind [] output (lineFrame p) room) (take-append-seam (lineFrame p) (drop (length (lineFrame p)) output))
+
+-- the line of calls is that of the packets not refused, and these fit
+record Line-of (line : List ℕ) (ps : List (List ℕ)) : Type 0 where
+  pub is : line ≡ lineOf ps
+  pub fit : allFit ps ≡ true
+
+sent-line : (cs : List WriteCall) → Line-of (sent cs) (packetsSent cs)
+unfolding sent packetsSent writeAnswer outputAfter bytesOf lineOf allFit flatten
+sent-line [] = record { is = refl; fit = refl }
+sent-line (c ∷ cs) =
+    let rest = sent-line cs in
+    write-cases (c .packet) (c .output)
+    (λ n. Line-of
+    (bytesOf (cond (eqb n 0) (Frame (length (lineFrame (c .packet)))) (Refused n)) (cond (eqb n 0) (sets (c .output) 0 (lineFrame (c .packet))) (c .output)) ++ sent cs)
+    (cond (eqb n 0) (c .packet ∷ packetsSent cs) (packetsSent cs)))
+    (λ f h. record { is = rw (bytes-written (c .packet) (c .output) h, rest .is); fit = rw (f, rest .fit) })
+    rest
+    rest
+
+pub writes-read : (cs : List WriteCall) → packetsIn (sent cs) ≡ packetsSent cs
+writes-read cs = let s = sent-line cs in rw (s .is) (read-back (packetsSent cs) (s .fit))

@@ -1,0 +1,45 @@
+-- What a writing call answers, case by case, and what it leaves in the output.
+use Prim.Native.Nat.{ℕ, _+_, _*_, _≤_, _<_}
+use mathlib.Core.Bool.{Bool, true, false, _&&_}
+use mathlib.Core.List.{List}
+use mathlib.Core.Path.{_≡_, refl, _∙_}
+use native.Mathlib.Omega.{arith}
+use borrow.Author.Tests.{le-leb, lt-leb}
+use lib.ListN.{length}
+use lib.Seq.{sets}
+use lib.Dec.{leb}
+use Rattle.serial.specs.declared.Written.{Written}
+use Rattle.serial.specs.declared.Written.the-variants.{Frame, Refused}
+use Rattle.serial.specs.Octets.{fits, lineFrame}
+use Rattle.serial.specs.Writing.{worstCase, writeRefusal, writeAnswer, outputAfter}
+
+pub fits-in : (p : List ℕ) → 2 ≤ length p → length p ≤ 19 → fits p ≡ true
+unfolding fits
+fits-in p lo hi = rw (le-leb 2 (length p) lo, le-leb (length p) 19 hi)
+
+module _ (p output : List ℕ) where
+  refused : fits p ≡ false → (Refused 17 ≡ writeAnswer p output) × (output ≡ outputAfter p output)
+  unfolding writeAnswer outputAfter writeRefusal
+  refused e = (rw e, rw e)
+
+  pub packet-few : length p < 2 → (Refused 17 ≡ writeAnswer p output) × (output ≡ outputAfter p output)
+  unfolding fits
+  packet-few h = refused (rw (lt-leb 2 (length p) h))
+
+  pub packet-many : 19 < length p → (Refused 17 ≡ writeAnswer p output) × (output ≡ outputAfter p output)
+  unfolding fits
+  packet-many h = refused (rw (le-leb 2 (length p) (omega arith), lt-leb (length p) 19 h))
+
+  module _ (lo : 2 ≤ length p) (hi : length p ≤ 19) where
+    pub output-short : length output < 2 * (length p + 2) + 2 → (Refused 16 ≡ writeAnswer p output) × (output ≡ outputAfter p output)
+    unfolding writeAnswer outputAfter writeRefusal worstCase
+    output-short h =
+        let short = lt-leb (2 * (length p + 2) + 2) (length output) h in
+        (rw (fits-in p lo hi, short), rw (fits-in p lo hi, short))
+
+    pub accepted : (n : ℕ) (new : List ℕ) → 2 * (length p + 2) + 2 ≤ length output → n ≡ length (lineFrame p) → new ≡ sets output 0 (lineFrame p)
+        → (Frame n ≡ writeAnswer p output) × (new ≡ outputAfter p output)
+    unfolding writeAnswer outputAfter writeRefusal worstCase
+    accepted n new h k e =
+        let long = le-leb (2 * (length p + 2) + 2) (length output) h in
+        (rw (fits-in p lo hi, long, k), rw (fits-in p lo hi, long, e))
