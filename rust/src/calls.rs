@@ -2,7 +2,7 @@
 //! other, which is what [`ffi`] asks for.
 
 use crate::ffi;
-use crate::lengths::{RECEIVER_RECORD, SENDER_RECORD, TOTALS_RECORD};
+use crate::lengths::{LINE_RECORD, LONGEST_PACKET, RECEIVER_RECORD, SENDER_RECORD, TOTALS_RECORD};
 use crate::refusal::Refusal;
 use crate::system::SystemPacket;
 
@@ -129,5 +129,48 @@ pub(crate) fn totals_note(totals: &mut [u8; TOTALS_RECORD], answer: &[u8; 16]) {
     match number {
         0 => {}
         _ => unreachable!("noting is not refused where totals and answer have full length"),
+    }
+}
+
+/// Writes a packet's frame and returns the answer's bytes.
+pub(crate) fn line_write(packet: &[u8], line: &mut [u8]) -> Result<[u8; 8], Refusal> {
+    let mut answer = [0; 8];
+    // SAFETY: as said at the head of this file.
+    let number = unsafe {
+        ffi::aes18_line_write(
+            packet.as_ptr(),
+            packet.len(),
+            line.as_mut_ptr(),
+            line.len(),
+            answer.as_mut_ptr(),
+            answer.len(),
+        )
+    };
+    Refusal::answered(number).map(|()| answer)
+}
+
+/// Reads up to the first packet and returns the answer's bytes.
+pub(crate) fn line_read(
+    record: &mut [u8; LINE_RECORD],
+    line: &[u8],
+    packet: &mut [u8; LONGEST_PACKET],
+) -> [u8; 16] {
+    let mut answer = [0; 16];
+    // SAFETY: as said at the head of this file.
+    let number = unsafe {
+        ffi::aes18_line_read(
+            record.as_mut_ptr(),
+            record.len(),
+            line.as_ptr(),
+            line.len(),
+            packet.as_mut_ptr(),
+            packet.len(),
+            answer.as_mut_ptr(),
+            answer.len(),
+        )
+    };
+    match number {
+        0 => answer,
+        _ => unreachable!("a line's read is not refused where all that it writes has full length"),
     }
 }

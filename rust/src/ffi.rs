@@ -1,12 +1,14 @@
 //! The functions of the proved static library, as C sees them.
 //!
 //! A slice is a pointer and a length; a pointer whose length is 0 is not read and may be null. Each function answers 0 or a refusal's number, or
-//! 255 where the record or the answer is shorter than it has to be, and then it reads and writes nothing. Any numbers and any bytes may be passed.
+//! 255 where the record, the answer or the packet of a line read is shorter than it has to be, and then it reads and writes nothing. Any numbers and
+//! any bytes may be passed.
 //!
 //! # Safety
 //!
 //! Each pointer must be valid for its length: for reads and writes where it is `*mut`, for reads where it is `*const`. A slice that is written (a
-//! record, totals, the store of an offer or a read, a block, the answer of a block or a read) must overlap no other slice of the call.
+//! record, totals, the store of an offer or a read, a block, the line of a line write, the packet of a line read, the answer of a block, a read, a
+//! line write or a line read) must overlap no other slice of the call.
 
 extern "C" {
     /// Lists a sender's circuits, three bytes each, and writes its record.
@@ -81,6 +83,30 @@ extern "C" {
         totals: *mut u8,
         totals_len: usize,
         answer: *const u8,
+        answer_len: usize,
+    ) -> u32;
+
+    /// Writes a packet of 2 to 19 bytes as a frame of the serial line. The answer, 8 bytes: the bytes written, lowest first.
+    pub fn aes18_line_write(
+        packet: *const u8,
+        packet_len: usize,
+        line: *mut u8,
+        line_len: usize,
+        answer: *mut u8,
+        answer_len: usize,
+    ) -> u32;
+
+    /// Reads bytes of the serial line up to the first packet, which goes to the start of `packet`, 19 bytes or more. The record, 24 bytes, is what is
+    /// kept between one byte and the next; 24 zeros are a fresh one. The answer, 16 bytes: byte 0 the packet's length, or 0 where the bytes end
+    /// before any; bytes 8 to 15 the bytes read, lowest first; all others 0.
+    pub fn aes18_line_read(
+        record: *mut u8,
+        record_len: usize,
+        line: *const u8,
+        line_len: usize,
+        packet: *mut u8,
+        packet_len: usize,
+        answer: *mut u8,
         answer_len: usize,
     ) -> u32;
 }

@@ -6,6 +6,9 @@
 //! store of [`SENDER_STORE`] or [`RECEIVER_STORE`] bytes, the same one at every call of that end, which nobody else writes in between. [`Totals`]
 //! beside a receiver are what its notices add up to.
 //!
+//! Beside the user bits there is the serial line to a telemetry terminal: packets of 2 to 19 bytes as the octet-stuffed frames of RFC 1662.
+//! [`write_line`] writes a packet's frame, and a [`LineReader`] reads the packets of a line that is cut anywhere.
+//!
 //! Every call takes any input: it answers its result or a [`Refusal`], and a refused call changes nothing.
 //!
 //! # A pass, sent and read back
@@ -70,6 +73,7 @@ mod calls;
 mod circuit;
 pub mod ffi;
 mod lengths;
+mod line;
 mod notice;
 mod receiver;
 mod refusal;
@@ -79,9 +83,11 @@ mod totals;
 
 pub use circuit::Circuit;
 pub use lengths::{
-    LONGEST_MESSAGE, RECEIVER_RECORD, RECEIVER_STORE, REGION, SENDER_RECORD, SENDER_STORE,
-    SYSTEM_PLACE, TOTALS_RECORD,
+    LINE_RECORD, LONGEST_LINE_FRAME, LONGEST_MESSAGE, LONGEST_PACKET, RECEIVER_RECORD,
+    RECEIVER_STORE, REGION, SENDER_RECORD, SENDER_STORE, SHORTEST_PACKET, SYSTEM_PLACE,
+    TOTALS_RECORD,
 };
+pub use line::{write_line, LinePacket, LineRead, LineReader};
 pub use notice::{Fate, Notice};
 pub use receiver::{Read, Receiver};
 pub use refusal::Refusal;

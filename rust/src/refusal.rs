@@ -51,10 +51,14 @@ pub enum Refusal {
     RecordOutOfRange = 14,
     /// 15: from above to, or to past the bytes lent.
     BitRange = 15,
+    /// 16: output below the worst case of a packet's frame: 2 bytes for each packet and FCS byte plus 2 flags, whatever this frame needs.
+    LineTooShort = 16,
+    /// 17: a packet outside 2 to 19 bytes.
+    PacketLength = 17,
 }
 
 /// Every refusal with its words, in the order of the numbers from 1.
-const TABLE: [(Refusal, &str); 15] = [
+const TABLE: [(Refusal, &str); 17] = [
     (Refusal::ListLength, "length not 3, 6, 9 or 12"),
     (Refusal::AddressReserved, "an address FF hex"),
     (
@@ -85,10 +89,15 @@ const TABLE: [(Refusal, &str); 15] = [
         Refusal::BitRange,
         "from above to, or to past the bytes lent",
     ),
+    (
+        Refusal::LineTooShort,
+        "output below the worst case: 2 bytes for each packet and FCS byte plus 2 flags",
+    ),
+    (Refusal::PacketLength, "a packet outside 2 to 19 bytes"),
 ];
 
 impl Refusal {
-    /// The specification's number of the refusal, 1 to 15.
+    /// The specification's number of the refusal, 1 to 17.
     pub fn number(self) -> u8 {
         self as u8
     }
@@ -97,8 +106,8 @@ impl Refusal {
     pub(crate) fn answered(number: u32) -> Result<(), Refusal> {
         match number {
             0 => Ok(()),
-            1..=15 => Err(TABLE[number as usize - 1].0),
-            _ => unreachable!("a call answers 0 to 15 to a record and an answer of full length"),
+            1..=17 => Err(TABLE[number as usize - 1].0),
+            _ => unreachable!("a call answers 0 to 17 to a record and an answer of full length"),
         }
     }
 }

@@ -47,7 +47,8 @@ fn stuffed(bits: &[bool]) -> Vec<bool> {
     stuffed
 }
 
-fn fcs(bytes: &[u8]) -> u16 {
+/// The FCS of bytes; its low byte is sent first.
+pub fn fcs(bytes: &[u8]) -> u16 {
     let step = |register: u16, bit: bool| match (register & 1 == 1) != bit {
         true => register >> 1 ^ 0x8408,
         false => register >> 1,

@@ -265,6 +265,14 @@ fn words_and_numbers() {
             Refusal::BitRange,
             "refusal 15: from above to, or to past the bytes lent",
         ),
+        (
+            Refusal::LineTooShort,
+            "refusal 16: output below the worst case: 2 bytes for each packet and FCS byte plus 2 flags",
+        ),
+        (
+            Refusal::PacketLength,
+            "refusal 17: a packet outside 2 to 19 bytes",
+        ),
     ];
     for (number, (refusal, words)) in (1..).zip(words) {
         assert_eq!(refusal.number(), number);
