@@ -2,17 +2,21 @@
  * The AES18 user-bit channel: messages in the user bits of AES3 audio (ITU-R BS.776 with HDLC framing).
  *
  * A sender lists circuits, takes messages and makes blocks of user bits. A receiver lists circuits and reads bits, cut anywhere, up to the next
- * notice. Totals, kept beside a receiver, are what the notices of a pass add up to at each circuit. These are the functions of the static library
- * libaes18.a for x86-64, which `rt staticlib aes18` proves and writes; docs/PROOFS.md says what is proved of them. Document 01 is the specification:
- * refusals have its numbers, and its words stand in quotation marks. The totals are those of document 02, ask 1.
+ * notice. Totals, kept beside a receiver, are what the notices of a pass add up to at each circuit. Apart from the user bits, packets are written to
+ * a serial line and read from one: that to a telemetry terminal, in the octet-stuffed frames of RFC 1662. These are the functions of the static
+ * library libaes18.a for x86-64, which `rt staticlib aes18` proves and writes; docs/PROOFS.md says what is proved of them. Document 01 is the
+ * specification: refusals have its numbers, and its words stand in quotation marks. The totals are those of document 02, ask 1; the serial line, with
+ * refusals 16 and 17, is that of its ask 3.
  *
  * What is lent. Every array is lent as a pointer and its length in bytes, for the time of the call. With length 0 any pointer will do, a null
- * pointer too, and is not followed. An array that a call writes (record, totals, block, the answer of a block and of a read, and the store of an
- * offer and of a read) must not overlap any other array of the same call. Arrays that are only read may overlap each other.
+ * pointer too, and is not followed. An array that a call writes (record, totals, block, the store of an offer and of a read, the line of a line
+ * write, the packet of a line read, and the answer of a block, a read, a line write and a line read) must not overlap any other array of the same
+ * call. Arrays that are only read may overlap each other.
  *
  * Ends. All that a sender or a receiver is stands in its record and its store. The calls keep no other state, take no memory from the system
  * and wait for nothing, so calls for different ends may interrupt each other or run at the same time. Each end lends the record as the call
- * before left it, and the same store in all its calls; nobody else writes either in between. A record of totals is lent in the same way.
+ * before left it, and the same store in all its calls; nobody else writes either in between. A record of totals and that of a line's reader are lent
+ * in the same way.
  *
  * Answers. Every call returns AES18_ACCEPTED or the number of a refusal, for any input; nothing has to be checked before. A refused call leaves
  * every lent byte as it was, but for a refused listing, which writes the record of no circuits.
@@ -55,6 +59,9 @@ extern "C" {
 #define AES18_BLOCK_ANSWER 8
 #define AES18_READ_ANSWER 16
 #define AES18_TOTALS_RECORD 64
+#define AES18_LINE_RECORD 24
+#define AES18_LINE_WRITE_ANSWER 8
+#define AES18_LINE_READ_ANSWER 16
 
 /*
  * The store. Region c begins at byte 4096 * c and belongs to circuit number c, 0 to 3. At a sender the message last taken stands at the start of
@@ -82,9 +89,15 @@ extern "C" {
 #define AES18_HIGHEST_CODE 8
 #define AES18_LONGEST_INFORMATION 15
 
+/* A packet of the serial line in bytes, and the longest frame: two bytes for each byte of the longest packet and of its FCS, and two flags. */
+#define AES18_SHORTEST_PACKET 2
+#define AES18_LONGEST_PACKET 19
+#define AES18_LONGEST_LINE_FRAME 44
+
 /*
- * Refusals, in the words of document 01. Where several apply, a call gives the first in its own order, which stands at its declaration by the names
- * without AES18_REFUSED_. SHORT is no number of document 01: it comes before all others, with nothing read or written.
+ * Refusals, in the words of document 01, and of document 02 from 16 on. Where several apply, a call gives the first in its own order, which stands
+ * at its declaration by the names without AES18_REFUSED_. SHORT is no number of these documents: it comes before all others, with nothing read or
+ * written.
  */
 #define AES18_ACCEPTED 0
 #define AES18_REFUSED_LIST 1        /* "length not 3, 6, 9 or 12" */
@@ -102,7 +115,9 @@ extern "C" {
 #define AES18_REFUSED_SYSTEM 13     /* "only if a system packet is wanted, enable bits above 15, code above 8 or information above 15 bytes" */
 #define AES18_REFUSED_RECORD 14     /* "a record out of range .., which no record made by calls is"; the ranges stand at the records below */
 #define AES18_REFUSED_BITS 15       /* "from above to, or to past the bytes lent" */
-#define AES18_REFUSED_SHORT 255     /* the record or the answer is shorter than it has to be */
+#define AES18_REFUSED_LINE 16       /* "output shorter than that": than "the worst case, 2 bytes for each packet and FCS byte plus 2 flags" */
+#define AES18_REFUSED_PACKET 17     /* "a packet outside 2 to 19 bytes, looked at before 16" */
+#define AES18_REFUSED_SHORT 255     /* the record, the answer or the packet's place of a line read is shorter than it has to be */
 
 /*
  * Records. A record is a value: it may be copied, and a copy of record and store together is a copy of the end. Its layout is told for those who
@@ -151,6 +166,14 @@ extern "C" {
  *              8 to 11   packets lost
  *              12 to 15  packets orphaned
  * The empty one is 64 times 0, which a caller writes itself. None is out of range.
+ *
+ * The record of a line's reader, 24 bytes, what is kept between one byte of the line and the next:
+ *   0        1 if a flag is read, else 0
+ *   1        1 if an escape is read and what it escapes is not, else 0
+ *   2        how many unescaped bytes stand behind the last flag, 0 to 21, or 22 for more
+ *   3 to 23  these bytes; 0 where there is none, and all 0 where there are more than 21
+ * A fresh one is 24 times 0, which a caller writes itself. None is out of range: in byte 0 and 1 any number above 1 counts as 1, and in byte 2 any
+ * number above 21 as more than 21.
  */
 
 /*
@@ -278,6 +301,52 @@ uint32_t aes18_totals_note(uint8_t *totals, size_t totals_len, const uint8_t *an
 
 /* The highest figure. */
 #define AES18_TOTALS_MOST 4294967295u
+
+/*
+ * Writes the frame of a packet of 2 to 19 bytes to the start of `line`; bytes behind it keep their values. In base 16, the frame is the flag 7E, the
+ * bytes of the packet, its FCS, which is that of the user bits, low byte first, and the flag 7E. Each 7E and 7D between the flags is written as the
+ * escape 7D and the byte exclusive-ored with 20; nothing else is escaped. A line is written by one call for each packet, each frame behind the one
+ * before, with two flags of its own.
+ * `line` has to hold the worst case, 2 * (packet_len + 2) + 2 bytes, even if this frame is shorter; AES18_LONGEST_LINE_FRAME is always enough.
+ * The answer, 8 bytes, is the number of bytes written.
+ * Refusals, in order: SHORT, PACKET, LINE.
+ */
+uint32_t aes18_line_write(const uint8_t *packet, size_t packet_len, uint8_t *line, size_t line_len, uint8_t *answer, size_t answer_len);
+
+/* Where the number stands in a line write's answer. */
+#define AES18_LINE_WRITE_BYTES 0
+
+/*
+ * Reads bytes of a line. It stops behind the first packet, or at the end of the bytes. So a stretch of bytes is read by a loop:
+ *
+ *     do {
+ *         refusal = aes18_line_read(record, sizeof record, line + at, line_len - at, packet, sizeof packet, answer, sizeof answer);
+ *         (leave the loop if it is refused)
+ *         at += (the bytes read: the number in bytes 8 to 15 of the answer);
+ *         (take the packet, if there is one)
+ *     } while (answer[AES18_LINE_READ_PACKET] != 0);
+ *
+ * The next call, with other bytes or the same, goes on as if the bytes had never been cut. A cut may be anywhere, between an escape and what it
+ * escapes too.
+ *
+ * The answer, 16 bytes:
+ *   0        the length of the packet, 2 to 19, or 0 where the bytes end before any
+ *   1 to 7   0
+ *   8 to 15  the bytes read by this call
+ *
+ * The packet, without its FCS, goes to the start of `packet`, which is lent with at least AES18_LONGEST_PACKET bytes. The bytes behind it keep their
+ * values, and so do all where there is none.
+ * Bytes before the first flag are skipped. Two flags in a row hold no frame, and one flag may end a frame and begin the next. An escape and any byte
+ * but a flag stand for that byte exclusive-ored with 20 in base 16. A frame is dropped if its FCS is wrong, if its packet is outside 2 to 19 bytes,
+ * or if its escape is followed by a flag, which is a flag all the same. So what stands behind any 7E is read as it would be behind a first flag.
+ * Refusals: SHORT.
+ */
+uint32_t aes18_line_read(uint8_t *record, size_t record_len, const uint8_t *line, size_t line_len, uint8_t *packet, size_t packet_len,
+                         uint8_t *answer, size_t answer_len);
+
+/* Where the numbers stand in a line read's answer. */
+#define AES18_LINE_READ_PACKET 0
+#define AES18_LINE_READ_BYTES 8
 
 #ifdef __cplusplus
 }

@@ -12,8 +12,11 @@
 
 enum { PAGE = 4096, ARENA = 5 * PAGE, BEFORE = 0xA5, OLD = 0x5A };
 
-/* The arrays of a call; RECORD is an end's record or one of totals, INPUT a list, message, system information, bits or an answer to note. */
-enum { RECORD, STORE, INPUT, BLOCK, ANSWER, ARRAYS };
+/*
+ * The arrays of a call. RECORD is that of an end, of totals or of a line's reader; INPUT a list, a message, system information, bits, an answer to
+ * note, a packet to write or a line to read. What a call makes stands in BLOCK, which has another name where it is a line or a packet.
+ */
+enum { RECORD, STORE, INPUT, BLOCK, ANSWER, ARRAYS, LINE = BLOCK, PACKET = BLOCK };
 
 struct call {
     uint8_t bytes[ARRAYS][ARENA];
@@ -23,7 +26,7 @@ struct call {
     uint64_t from, to;
 };
 
-/* One of the six functions, and the arrays that it writes where it accepts and where it refuses. */
+/* One of the eight functions, and the arrays that it writes where it accepts and where it refuses. */
 struct function {
     uint32_t (*run)(const struct call *c, uint8_t *const at[ARRAYS]);
     unsigned writes, writes_refused;
@@ -102,6 +105,17 @@ static uint32_t totals_note(const struct call *c, uint8_t *const at[ARRAYS])
     return aes18_totals_note(at[RECORD], c->length[RECORD], at[INPUT], c->length[INPUT]);
 }
 
+static uint32_t line_write(const struct call *c, uint8_t *const at[ARRAYS])
+{
+    return aes18_line_write(at[INPUT], c->length[INPUT], at[LINE], c->length[LINE], at[ANSWER], c->length[ANSWER]);
+}
+
+static uint32_t line_read(const struct call *c, uint8_t *const at[ARRAYS])
+{
+    return aes18_line_read(at[RECORD], c->length[RECORD], at[INPUT], c->length[INPUT], at[PACKET], c->length[PACKET], at[ANSWER],
+                           c->length[ANSWER]);
+}
+
 static const struct function list_sender = {sender_list, 1 << RECORD, 1 << RECORD, AES18_SENDER_RECORD, 0, 0};
 static const struct function offer = {sender_offer, 1 << RECORD | 1 << STORE, 0, AES18_SENDER_RECORD, AES18_SENDER_STORE, 0};
 static const struct function block = {
@@ -110,6 +124,9 @@ static const struct function list_receiver = {receiver_list, 1 << RECORD, 1 << R
 static const struct function reading = {
     receiver_read, 1 << RECORD | 1 << STORE | 1 << ANSWER, 0, AES18_RECEIVER_RECORD, AES18_RECEIVER_STORE, AES18_READ_ANSWER};
 static const struct function noting = {totals_note, 1 << RECORD, 0, AES18_TOTALS_RECORD, 0, 0};
+static const struct function line_writing = {line_write, 1 << LINE | 1 << ANSWER, 0, 0, 0, AES18_LINE_WRITE_ANSWER};
+static const struct function line_reading = {
+    line_read, 1 << RECORD | 1 << PACKET | 1 << ANSWER, 0, AES18_LINE_RECORD, 0, AES18_LINE_READ_ANSWER};
 
 static void make_arenas(void)
 {
@@ -818,6 +835,357 @@ static void test_pass(uint64_t n)
     IS(r.bytes[STORE][AES18_RECEIVER_STORE - 1], OLD);
 }
 
+/* The worst case of a packet's frame. */
+static size_t worst_frame(size_t packet)
+{
+    return 2 * (packet + 2) + 2;
+}
+
+/*
+ * Packets of the serial line and their frames, made from document 02 by other code. ESCAPES is a packet whose FCS is 7E 7E, ENDS one whose FCS ends
+ * in 5D, and in the last one and its FCS each byte is escaped.
+ */
+enum { ESCAPES = 3, ENDS = 4 };
+static const struct {
+    uint8_t packet[AES18_LONGEST_PACKET];
+    size_t length;
+    uint8_t frame[AES18_LONGEST_LINE_FRAME];
+    size_t written;
+} lines[] = {
+    {{0x00, 0x00}, 2, {0x7E, 0x00, 0x00, 0x47, 0x0F, 0x7E}, 6},
+    {{0xFF, 0xFF}, 2, {0x7E, 0xFF, 0xFF, 0xFF, 0xFF, 0x7E}, 6},
+    {{0x7D, 0x7E}, 2, {0x7E, 0x7D, 0x5D, 0x7D, 0x5E, 0x02, 0xD5, 0x7E}, 8},
+    {{0x1B, 0x00}, 2, {0x7E, 0x1B, 0x00, 0x7D, 0x5E, 0x7D, 0x5E, 0x7E}, 8},
+    {{0x41, 0xDD}, 2, {0x7E, 0x41, 0xDD, 0x91, 0x5D, 0x7E}, 6},
+    {{0x01, 0x80, 0x7D, 0x00, 0x11, 0x13, 0x1F, 0x20, 0x5D, 0x5E, 0x7C, 0x7E, 0x7F, 0xFD, 0xFE, 0xFF, 0x7D, 0x7E, 0x33}, 19,
+     {0x7E, 0x01, 0x80, 0x7D, 0x5D, 0x00, 0x11, 0x13, 0x1F, 0x20, 0x5D, 0x5E, 0x7C, 0x7D,
+      0x5E, 0x7F, 0xFD, 0xFE, 0xFF, 0x7D, 0x5D, 0x7D, 0x5E, 0x33, 0xFE, 0xB8, 0x7E}, 27},
+    {{0x7D, 0x7D, 0x7E, 0x7E, 0x7D, 0x7E, 0x7E, 0x7D, 0x7E, 0x7E, 0x7D, 0x7D, 0x7E, 0x7D, 0x7D, 0x7D, 0x7D, 0x7D, 0x7D}, 19,
+     {0x7E, 0x7D, 0x5D, 0x7D, 0x5D, 0x7D, 0x5E, 0x7D, 0x5E, 0x7D, 0x5D, 0x7D, 0x5E, 0x7D, 0x5E, 0x7D, 0x5D, 0x7D, 0x5E, 0x7D, 0x5E, 0x7D,
+      0x5D, 0x7D, 0x5D, 0x7D, 0x5E, 0x7D, 0x5D, 0x7D, 0x5D, 0x7D, 0x5D, 0x7D, 0x5D, 0x7D, 0x5D, 0x7D, 0x5D, 0x7D, 0x5E, 0x7D, 0x5D, 0x7E}, 44},
+};
+
+/* What a line's writing writes, and that all behind it is kept. */
+static void test_line_frames(void)
+{
+    static struct call c;
+    size_t i;
+
+    for (i = 0; i < COUNT(lines); i++) {
+        size_t worst = worst_frame(lines[i].length);
+
+        prepare(&c, &line_writing);
+        put(&c, INPUT, lines[i].packet, lines[i].length);
+        c.length[LINE] = worst + 5;
+        c.length[ANSWER] = AES18_LINE_WRITE_ANSWER + 3;
+        CALL(&c, &line_writing, AES18_ACCEPTED);
+        IS(number(c.bytes[ANSWER] + AES18_LINE_WRITE_BYTES, 8), lines[i].written);
+        ALL(c.bytes[ANSWER] + AES18_LINE_WRITE_ANSWER, OLD, 3);
+        EQUAL(c.bytes[LINE], lines[i].frame, lines[i].written);
+        ALL(c.bytes[LINE] + lines[i].written, OLD, worst + 5 - lines[i].written);
+    }
+    IS(lines[COUNT(lines) - 1].written, AES18_LONGEST_LINE_FRAME);
+    IS(worst_frame(AES18_LONGEST_PACKET), AES18_LONGEST_LINE_FRAME);
+}
+
+/* Packets of all lengths into lines of no bytes, one too few and just enough; no frame here needs the worst case. Answers of all lengths. */
+static void test_line_write_refusals(void)
+{
+    static struct call c;
+    size_t i;
+
+    prepare(&c, &line_writing);
+    for (c.length[ANSWER] = 0; c.length[ANSWER] < AES18_LINE_WRITE_ANSWER; c.length[ANSWER]++)
+        CALL(&c, &line_writing, AES18_REFUSED_SHORT);
+    for (i = 0; i <= 300; i++) {
+        int fits = i >= AES18_SHORTEST_PACKET && i <= AES18_LONGEST_PACKET;
+
+        c.length[INPUT] = i;
+        c.length[LINE] = 0;
+        CALL(&c, &line_writing, fits ? AES18_REFUSED_LINE : AES18_REFUSED_PACKET);
+        c.length[LINE] = worst_frame(i) - 1;
+        CALL(&c, &line_writing, fits ? AES18_REFUSED_LINE : AES18_REFUSED_PACKET);
+        c.length[LINE] = worst_frame(i);
+        CALL(&c, &line_writing, fits ? AES18_ACCEPTED : AES18_REFUSED_PACKET);
+    }
+    c.length[ANSWER] = AES18_LINE_WRITE_ANSWER - 1;
+    CALL(&c, &line_writing, AES18_REFUSED_SHORT);
+}
+
+/* A fresh reader of a line. */
+static void prepare_reader(struct call *c)
+{
+    prepare(c, &line_reading);
+    memset(c->bytes[RECORD], 0, AES18_LINE_RECORD);
+    c->length[PACKET] = AES18_LONGEST_PACKET;
+}
+
+/* Reads a stretch of a line up to its end. The packets in it are those of `lines` from number *next on. */
+static void read_line(int at, struct call *c, const uint8_t *line, size_t length, size_t *next)
+{
+    const uint8_t *answer = c->bytes[ANSWER];
+    size_t packet, bytes;
+
+    do {
+        put(c, INPUT, line, length);
+        memset(c->bytes[PACKET], OLD, AES18_LONGEST_PACKET);
+        is(at, call(at, c, &line_reading), AES18_ACCEPTED);
+        packet = answer[AES18_LINE_READ_PACKET];
+        bytes = (size_t)number(answer + AES18_LINE_READ_BYTES, 8);
+        all(at, answer + 1, 0, 7);
+        if (packet > AES18_LONGEST_PACKET || bytes > length || (packet > 0 && *next == COUNT(lines))) {
+            is(at, packet, 0);
+            return;
+        }
+        if (packet > 0) {
+            is(at, packet, lines[*next].length);
+            equal(at, c->bytes[PACKET], lines[*next].packet, packet);
+            ++*next;
+        }
+        all(at, c->bytes[PACKET] + packet, OLD, AES18_LONGEST_PACKET - packet);
+        line += bytes;
+        length -= bytes;
+    } while (packet > 0);
+    is(at, length, 0);
+}
+
+#define READ_LINE(c, line, length, next) read_line(__LINE__, c, line, length, next)
+
+/* The line of all these packets, each frame with its own flags, or with the flag of the one before it; its length. */
+static size_t put_lines(uint8_t *line, int shared)
+{
+    size_t i, length = 0;
+
+    for (i = 0; i < COUNT(lines); i++) {
+        size_t from = shared && i > 0;
+
+        memcpy(line + length, lines[i].frame + from, lines[i].written - from);
+        length += lines[i].written - from;
+    }
+    return length;
+}
+
+/* A line in two parts, cut at every place, and one byte at a time, with reads of no bytes between them. */
+static void test_line_cut(int shared)
+{
+    static const uint8_t behind_flag[AES18_LINE_RECORD] = {1};
+    static struct call c;
+    uint8_t line[COUNT(lines) * AES18_LONGEST_LINE_FRAME];
+    size_t cut, next, length = put_lines(line, shared);
+
+    for (cut = 0; cut <= length; cut++) {
+        prepare_reader(&c);
+        next = 0;
+        READ_LINE(&c, line, cut, &next);
+        READ_LINE(&c, line + cut, length - cut, &next);
+        IS(next, COUNT(lines));
+        EQUAL(c.bytes[RECORD], behind_flag, sizeof behind_flag);
+    }
+    prepare_reader(&c);
+    next = 0;
+    for (cut = 0; cut < length; cut++)
+        READ_LINE(&c, line + cut, 1, &next);
+    IS(next, COUNT(lines));
+    EQUAL(c.bytes[RECORD], behind_flag, sizeof behind_flag);
+}
+
+/* What holds no packet between two flags: FCS wrong, packets of 0, 1 and 20 bytes with a right FCS, an escape before the flag. */
+static const struct {
+    uint8_t bytes[24];
+    size_t length;
+} dropped[] = {
+    {{0}, 0},
+    {{0}, 1},
+    {{0, 0}, 2},
+    {{0x41, 0xF5, 0xA3}, 3},
+    {{0x61, 0x62, 0x63, 0x25, 0x9E ^ 1}, 5},
+    {{0x61, 0x62, 0x63, 0x25, 0x9E, 0x7D}, 6},
+    {{0x7D}, 1},
+    {{0x7D, 0x7D, 0x7D}, 3},
+    {{0x55, 0x55, 0x55, 0x55, 0x55, 0x55, 0x55, 0x55, 0x55, 0x55, 0x55, 0x55, 0x55, 0x55, 0x55, 0x55, 0x55, 0x55, 0x55, 0x55, 0x2B, 0xDB}, 22},
+};
+
+/* Each of them before the first flag, and behind a frame; the frames behind it are read. */
+static void test_line_dropped(void)
+{
+    static struct call c;
+    size_t i, next;
+
+    for (i = 0; i < COUNT(dropped); i++) {
+        prepare_reader(&c);
+        next = 0;
+        READ_LINE(&c, dropped[i].bytes, dropped[i].length, &next);
+        ALL(c.bytes[RECORD], 0, AES18_LINE_RECORD);
+        READ_LINE(&c, lines[0].frame, lines[0].written, &next);
+        READ_LINE(&c, dropped[i].bytes, dropped[i].length, &next);
+        READ_LINE(&c, lines[1].frame, lines[1].written, &next);
+        READ_LINE(&c, lines[2].frame, lines[2].written, &next);
+        IS(next, 3);
+    }
+}
+
+/* Escapes that no call writes: each byte of a frame, its FCS too; and 5D as 7D 7D, behind which a flag is a flag. */
+static void test_line_escapes(void)
+{
+    static const uint8_t escaped[] = {0x7E, 0x7D, 0x3B, 0x7D, 0x20, 0x7D, 0x5E, 0x7D, 0x5E, 0x7E};
+    static const uint8_t ends[] = {0x7E, 0x41, 0xDD, 0x91, 0x7D, 0x7D, 0x7E};
+    static struct call c;
+    size_t next = ESCAPES;
+
+    prepare_reader(&c);
+    READ_LINE(&c, escaped, sizeof escaped, &next);
+    IS(next, ESCAPES + 1);
+    READ_LINE(&c, ends, sizeof ends, &next);
+    IS(next, ENDS + 1);
+}
+
+/* Reads a frame with these lengths of record, packet and answer: it is read, and what stands behind them is kept, or nothing changes. */
+static void read_frame(size_t record, size_t packet, size_t answer)
+{
+    static const uint8_t behind_flag[AES18_LINE_RECORD] = {1}, answered[AES18_LINE_READ_ANSWER] = {2, 0, 0, 0, 0, 0, 0, 0, 6};
+    static struct call c;
+    int fits = record >= AES18_LINE_RECORD && packet >= AES18_LONGEST_PACKET && answer >= AES18_LINE_READ_ANSWER;
+
+    prepare_reader(&c);
+    put(&c, INPUT, lines[0].frame, lines[0].written);
+    c.length[RECORD] = record;
+    c.length[PACKET] = packet;
+    c.length[ANSWER] = answer;
+    CALL(&c, &line_reading, fits ? AES18_ACCEPTED : AES18_REFUSED_SHORT);
+    if (fits) {
+        EQUAL(c.bytes[RECORD], behind_flag, sizeof behind_flag);
+        EQUAL(c.bytes[PACKET], lines[0].packet, lines[0].length);
+        EQUAL(c.bytes[ANSWER], answered, sizeof answered);
+        ALL(c.bytes[RECORD] + AES18_LINE_RECORD, OLD, record - AES18_LINE_RECORD);
+        ALL(c.bytes[PACKET] + lines[0].length, OLD, packet - lines[0].length);
+        ALL(c.bytes[ANSWER] + AES18_LINE_READ_ANSWER, OLD, answer - AES18_LINE_READ_ANSWER);
+    }
+}
+
+/* Records, packets and answers of all lengths. */
+static void test_line_lengths(void)
+{
+    size_t i;
+
+    for (i = 0; i <= AES18_LINE_RECORD + 5; i++)
+        read_frame(i, AES18_LONGEST_PACKET, AES18_LINE_READ_ANSWER);
+    for (i = 0; i <= AES18_LONGEST_PACKET + 5; i++)
+        read_frame(AES18_LINE_RECORD, i, AES18_LINE_READ_ANSWER);
+    for (i = 0; i <= AES18_LINE_READ_ANSWER + 5; i++)
+        read_frame(AES18_LINE_RECORD, AES18_LONGEST_PACKET, i);
+    read_frame(0, 0, 0);
+    read_frame(AES18_LINE_RECORD + 5, AES18_LONGEST_PACKET + 5, AES18_LINE_READ_ANSWER + 5);
+}
+
+/* The record behind some bytes of a line, from a fresh one. */
+static void test_line_records(void)
+{
+    static const struct {
+        uint8_t line[24];
+        size_t length;
+        uint8_t record[AES18_LINE_RECORD];
+    } cases[] = {
+        {{0}, 0, {0}},
+        {{9, 0x7D}, 2, {0}},
+        {{9, 0x7E}, 2, {1}},
+        {{0x7E, 0x7D}, 2, {1, 1}},
+        {{0x7E, 9, 0x7D}, 3, {1, 1, 1, 9}},
+        {{0x7E, 9, 0x7D, 0x5E}, 4, {1, 0, 2, 9, 0x7E}},
+        {{0x7E, 9, 0x7D, 0x7D}, 4, {1, 0, 2, 9, 0x5D}},
+        {{0x7E, 9, 0x7D, 0x7E}, 4, {1}},
+        {{0x7E, 1, 2, 3, 4, 5, 6, 7, 8, 9, 10, 11, 12, 13, 14, 15, 16, 17, 18, 19, 20, 21}, 22,
+         {1, 0, 21, 1, 2, 3, 4, 5, 6, 7, 8, 9, 10, 11, 12, 13, 14, 15, 16, 17, 18, 19, 20, 21}},
+        {{0x7E, 1, 2, 3, 4, 5, 6, 7, 8, 9, 10, 11, 12, 13, 14, 15, 16, 17, 18, 19, 20, 21, 22}, 23, {1, 0, 22}},
+        {{0x7E, 1, 2, 3, 4, 5, 6, 7, 8, 9, 10, 11, 12, 13, 14, 15, 16, 17, 18, 19, 20, 21, 22, 0x7D}, 24, {1, 1, 22}},
+    };
+    static struct call c;
+    size_t i, next = 0;
+
+    for (i = 0; i < COUNT(cases); i++) {
+        prepare_reader(&c);
+        READ_LINE(&c, cases[i].line, cases[i].length, &next);
+        EQUAL(c.bytes[RECORD], cases[i].record, AES18_LINE_RECORD);
+    }
+    IS(next, 0);
+}
+
+/* Records of any bytes: a read of no bytes makes 0 or 1 of bytes 0 and 1, and behind a flag the record is like any other. */
+static void test_line_garbage(void)
+{
+    static const uint8_t flag[] = {0x7E}, behind_flag[AES18_LINE_RECORD] = {1};
+    static struct call c;
+    size_t i, k, next;
+
+    for (i = 0; i < 256; i++) {
+        prepare_reader(&c);
+        for (k = 0; k < AES18_LINE_RECORD; k++)
+            c.bytes[RECORD][k] = (uint8_t)(i + i % 5 * k);
+        next = 0;
+        READ_LINE(&c, flag, 0, &next);
+        IS(c.bytes[RECORD][0], i != 0);
+        IS(c.bytes[RECORD][1], (i + i % 5) % 256 != 0);
+        READ_LINE(&c, flag, sizeof flag, &next);
+        EQUAL(c.bytes[RECORD], behind_flag, sizeof behind_flag);
+        READ_LINE(&c, lines[0].frame, lines[0].written, &next);
+        IS(next, 1);
+    }
+}
+
+/* Records of all counts, with 19 bytes and their FCS: a flag hands them over only at 21, inside and not behind an escape. */
+static void test_line_counts(void)
+{
+    static const uint8_t starts[][2] = {{0, 0}, {255, 0}, {0, 255}, {255, 255}};
+    static const uint8_t line[] = {0x7E, 0x33}, fcs[] = {0x66, 0xA9}, more[AES18_LINE_RECORD] = {1, 0, 22};
+    static struct call c;
+    size_t i;
+
+    for (i = 0; i < 256 * COUNT(starts); i++) {
+        uint8_t record[AES18_LINE_RECORD], start = (uint8_t)(i % COUNT(starts)), count = (uint8_t)(i / COUNT(starts));
+        int passes = start == 1 && count == AES18_LONGEST_PACKET + 2;
+
+        memset(record, 0x33, sizeof record);
+        memcpy(record, starts[start], 2);
+        record[2] = count;
+        memcpy(record + sizeof record - 2, fcs, 2);
+        prepare_reader(&c);
+        put(&c, RECORD, record, sizeof record);
+        put(&c, INPUT, line, 1);
+        CALL(&c, &line_reading, AES18_ACCEPTED);
+        IS(c.bytes[ANSWER][AES18_LINE_READ_PACKET], passes ? AES18_LONGEST_PACKET : 0);
+        ALL(c.bytes[PACKET], passes ? 0x33 : OLD, AES18_LONGEST_PACKET);
+        put(&c, RECORD, record, sizeof record);
+        put(&c, INPUT, line + 1, 1);
+        CALL(&c, &line_reading, AES18_ACCEPTED);
+        if (starts[start][0] != 0 && count > 20)
+            EQUAL(c.bytes[RECORD], more, sizeof more);
+    }
+}
+
+/* The arrays of a call side by side: arrays that touch do not overlap. */
+static void test_line_side_by_side(void)
+{
+    enum { WORST = 2 * (2 + 2) + 2, ANSWERED = 2 + WORST, WRITTEN = ANSWERED + AES18_LINE_WRITE_ANSWER };
+    enum { READ = AES18_LINE_RECORD + 8, GIVEN = READ + AES18_LONGEST_PACKET, ALL_READ = GIVEN + AES18_LINE_READ_ANSWER };
+    uint8_t written[WRITTEN], read[ALL_READ];
+
+    memset(written, OLD, sizeof written);
+    memcpy(written, lines[ESCAPES].packet, 2);
+    IS(aes18_line_write(written, 2, written + 2, WORST, written + ANSWERED, AES18_LINE_WRITE_ANSWER), AES18_ACCEPTED);
+    EQUAL(written, lines[ESCAPES].packet, 2);
+    EQUAL(written + 2, lines[ESCAPES].frame, 8);
+    ALL(written + 10, OLD, ANSWERED - 10);
+    IS(number(written + ANSWERED, 8), 8);
+    memset(read, 0, sizeof read);
+    memcpy(read + AES18_LINE_RECORD, lines[ESCAPES].frame, 8);
+    IS(aes18_line_read(read, AES18_LINE_RECORD, read + AES18_LINE_RECORD, 8, read + READ, AES18_LONGEST_PACKET, read + GIVEN,
+                       AES18_LINE_READ_ANSWER), AES18_ACCEPTED);
+    EQUAL(read + AES18_LINE_RECORD, lines[ESCAPES].frame, 8);
+    EQUAL(read + READ, lines[ESCAPES].packet, 2);
+    ALL(read + READ + 2, 0, AES18_LONGEST_PACKET - 2);
+    IS(read[GIVEN + AES18_LINE_READ_PACKET], 2);
+    IS(number(read + GIVEN + AES18_LINE_READ_BYTES, 8), 8);
+}
+
 /* All tests, with arrays of no bytes at a place. */
 static void test_all(uint8_t *place)
 {
@@ -843,6 +1211,17 @@ static void test_all(uint8_t *place)
     test_pass(AES18_FEWEST_BLOCK_BITS);
     test_pass(1003);
     test_pass(AES18_MOST_BLOCK_BITS);
+    test_line_frames();
+    test_line_write_refusals();
+    test_line_cut(0);
+    test_line_cut(1);
+    test_line_dropped();
+    test_line_escapes();
+    test_line_lengths();
+    test_line_records();
+    test_line_garbage();
+    test_line_counts();
+    test_line_side_by_side();
 }
 
 int main(void)
@@ -852,7 +1231,7 @@ int main(void)
     make_arenas();
     test_all(NULL);
     test_all(arenas[INPUT] + ARENA);
-    for (i = AES18_REFUSED_LIST; i <= AES18_REFUSED_BITS; i++)
+    for (i = AES18_REFUSED_LIST; i <= AES18_REFUSED_PACKET; i++)
         IS((uint64_t)refused[i], 1);
     IS((uint64_t)refused[AES18_REFUSED_SHORT], 1);
     for (i = AES18_NOTICE_END; i <= AES18_NOTICE_CIRCUIT; i++)
