@@ -1,11 +1,11 @@
-/* What the benchmark calls in C: the channel in plain C (plain.c), and the depth of a call on the stack (stack.c). */
+/* What the benchmark calls in C: the channel and the serial line in plain C (plain.c), and the depth of a call on the stack (stack.c). */
 #ifndef AES18_BENCH_H
 #define AES18_BENCH_H
 
 #include <stddef.h>
 #include <stdint.h>
 
-/* The records. Each call answers 0 or the number of document 01's refusal, as the library's do. */
+/* The records. Each call answers 0 or the number of the documents' refusal, as the library's do. */
 struct plain_sender;
 struct plain_receiver;
 extern const size_t plain_sender_size, plain_receiver_size;
@@ -27,6 +27,17 @@ struct plain_totals {
     } circuits[4];
 };
 
+/* A reader of the serial line, fresh while all its bytes are 0: whether a flag is read, whether an escape waits for its byte, how many bytes stand
+   behind the flag, and these. */
+struct plain_line {
+    uint8_t inside, escape, count, bytes[21];
+};
+
+/* The answer of a line's read: the packet's length, and the bytes read. On a little-endian machine its bytes are those of the library's answer. */
+struct plain_line_answer {
+    uint64_t packet, bytes;
+};
+
 /* A system packet; a block call is given a null pointer where none is wanted. */
 struct plain_system {
     uint64_t enable, code;
@@ -43,6 +54,8 @@ uint32_t plain_receiver_list(struct plain_receiver *r, const uint8_t *list, size
 uint32_t plain_receiver_read(struct plain_receiver *r, uint8_t *store, size_t store_len, const uint8_t *bits, size_t bits_len,
                              uint64_t from, uint64_t to, struct plain_read *answer);
 uint32_t plain_totals_note(struct plain_totals *t, const struct plain_read *answer);
+uint32_t plain_line_write(const uint8_t *packet, size_t packet_len, uint8_t *line, size_t line_len, uint64_t *written);
+uint32_t plain_line_read(struct plain_line *r, const uint8_t *line, size_t line_len, uint8_t *packet, struct plain_line_answer *answer);
 
 /* How many bytes of a stack of its own `call` touches. */
 size_t stack_depth(void (*call)(void *), void *given);

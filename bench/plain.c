@@ -1,5 +1,5 @@
-/* The channel in plain C, bit by bit, as a firmware would have it. A record is a struct; each call checks it as refusal 14 asks, but takes any
-   framing as it is. Noting takes any answer as that of a read. */
+/* The channel in plain C, bit by bit, as a firmware would have it, and the serial line byte by byte. A record is a struct; each call checks it as
+   refusal 14 asks, but takes any framing as it is. Noting takes any answer as that of a read. */
 #include "bench.h"
 #include <string.h>
 
@@ -576,5 +576,72 @@ uint32_t plain_totals_note(struct plain_totals *t, const struct plain_read *answ
     f->bytes = capped(f->bytes, answer->length);
     f->lost = capped(f->lost, answer->loss_or_code);
     f->orphaned = capped(f->orphaned, answer->fate_or_information == ORPHAN);
+    return 0;
+}
+
+/* ---- the serial line */
+
+enum { ESCAPE = 0x7d, TURNED = 0x20, SHORTEST_PACKET = 2, LONGEST_PACKET = 19 };
+
+static uint8_t *put_escaped(uint8_t *to, uint8_t byte)
+{
+    if (byte == FLAG || byte == ESCAPE) {
+        *to++ = ESCAPE;
+        byte ^= TURNED;
+    }
+    *to++ = byte;
+    return to;
+}
+
+uint32_t plain_line_write(const uint8_t *packet, size_t packet_len, uint8_t *line, size_t line_len, uint64_t *written)
+{
+    uint16_t fcs = FCS_PRESET;
+    uint8_t *to = line;
+    if (packet_len < SHORTEST_PACKET || packet_len > LONGEST_PACKET)
+        return 17;
+    if (line_len < 2 * (packet_len + 2) + 2)
+        return 16;
+    *to++ = FLAG;
+    for (size_t i = 0; i < packet_len; i++) {
+        for (int k = 0; k < 8; k++)
+            fcs = fcs_bit(fcs, packet[i] >> k & 1);
+        to = put_escaped(to, packet[i]);
+    }
+    to = put_escaped(to, (uint8_t)(~fcs & 0xff));
+    to = put_escaped(to, (uint8_t)(~fcs >> 8 & 0xff));
+    *to++ = FLAG;
+    *written = (uint64_t)(to - line);
+    return 0;
+}
+
+/* Reads up to the first packet. A count of one more than there is room for stands for all above. */
+uint32_t plain_line_read(struct plain_line *r, const uint8_t *line, size_t line_len, uint8_t *packet, struct plain_line_answer *answer)
+{
+    unsigned inside = r->inside, escape = r->escape, count = r->count, length = 0;
+    size_t i = 0;
+    while (i < line_len && !length) {
+        uint8_t byte = line[i++];
+        if (byte == FLAG) {
+            if (inside && !escape && count >= SHORTEST_PACKET + 2 && passes(r->bytes, 8 * count)) {
+                length = count - 2;
+                memcpy(packet, r->bytes, length);
+            }
+            inside = 1;
+            escape = count = 0;
+        } else if (inside && byte == ESCAPE && !escape) {
+            escape = 1;
+        } else if (inside) {
+            if (count < sizeof r->bytes)
+                r->bytes[count] = escape ? byte ^ TURNED : byte;
+            if (count <= sizeof r->bytes)
+                count++;
+            escape = 0;
+        }
+    }
+    r->inside = (uint8_t)inside;
+    r->escape = (uint8_t)escape;
+    r->count = (uint8_t)count;
+    answer->packet = length;
+    answer->bytes = i;
     return 0;
 }

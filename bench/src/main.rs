@@ -2,6 +2,7 @@
 
 mod blocks;
 mod calls;
+mod lines;
 mod noise;
 mod notes;
 mod race;
@@ -10,12 +11,14 @@ mod sides;
 mod stack;
 mod table;
 
-use aes18::{RECEIVER_RECORD, RECEIVER_STORE, SENDER_RECORD, SENDER_STORE, TOTALS_RECORD};
-use blocks::Traffic;
+use aes18::{
+    LINE_RECORD, RECEIVER_RECORD, RECEIVER_STORE, SENDER_RECORD, SENDER_STORE, TOTALS_RECORD,
+};
 use noise::Noise;
 use race::{Race, TURNS};
 use reads::Channel;
-use sides::{Library, Plain};
+use sides::{Library, LineSide, Plain};
+use stack::Work;
 use std::fs;
 use std::process::ExitCode;
 use std::time::Instant;
@@ -40,18 +43,29 @@ fn run() -> Result<(), String> {
     let mut reading = reads::races(&clean, &mut noise).map_err(refused)?;
     let mut noting = notes::races(&reading[1].case).map_err(refused)?;
     let mut calling = calls::races(&clean);
+    let mut writing = lines::writing(&mut noise).map_err(refused)?;
+    let mut taking = lines::reading(&writing[0].case, &mut noise).map_err(refused)?;
     head()?;
     check(&mut making)?;
     check(&mut reading)?;
     check(&mut noting)?;
     check(&mut calling)?;
-    say("Checked: in every case the three give the same blocks, answers, messages, stores and totals. They are compared again after every turn.")?;
+    check(&mut writing)?;
+    check(&mut taking)?;
+    say("Checked: the sides give the same blocks, answers, messages, stores, totals, lines and packets in every case, and again after every turn.")?;
     time("Block making", "bit", &mut making)?;
     time("Reading", "bit", &mut reading)?;
     time("Noting", "call", &mut noting)?;
     time("Calls without work", "call", &mut calling)?;
+    time("Line writing", "byte", &mut writing)?;
+    time("Line reading", "byte", &mut taking)?;
     sizes(plain_records)?;
-    depths(&making[0].case, &reading[1].case)?;
+    depths(Work {
+        traffic: &making[0].case,
+        channel: &reading[1].case,
+        packets: &writing[0].case,
+        line: &taking[0].case,
+    })?;
     let seconds = started.elapsed().as_secs_f64();
     say(&format!("\nThe run took {seconds:.0} s."))
 }
@@ -72,12 +86,12 @@ fn head() -> Result<(), String> {
         "plain C    bench/plain.c; a record is a struct, checked in every call but for its framing",
     )?;
     say(&format!("           {gcc}, {flags}"))?;
-    say("reference  package reference/; an end is a value of its own, not checked")?;
+    say("reference  package reference/; an end is a value of its own, not checked; not timed at the serial line")?;
     say(&format!("           {rustc}, --release"))?;
     say(&format!(
-        "Each figure is the best of {TURNS} turns. The three take turns, in both orders."
+        "Each figure is the best of {TURNS} turns. The sides take turns, in both orders."
     ))?;
-    say("Blocks, answers and stores are not cleared between turns: each turn writes over those of the one before.")
+    say("Blocks, answers, stores and lines are not cleared between turns: each turn writes over those of the one before.")
 }
 
 /// The processor's name, where the system tells it.
@@ -91,21 +105,23 @@ fn processor() -> String {
 }
 
 /// Stops where the sides differ.
-fn check<C, L: Default + PartialEq>(races: &mut [Race<C, L>]) -> Result<(), String> {
+fn check<C, L: Default + PartialEq, const N: usize>(
+    races: &mut [Race<C, L, N>],
+) -> Result<(), String> {
     races.iter_mut().try_for_each(Race::check)
 }
 
 /// Times the races and prints their table.
-fn time<C, L: Default + PartialEq>(
+fn time<C, L: Default + PartialEq, const N: usize>(
     title: &str,
     unit: &str,
-    races: &mut [Race<C, L>],
+    races: &mut [Race<C, L, N>],
 ) -> Result<(), String> {
-    table::times_head(title, unit)?;
+    table::times_head(title, unit, N)?;
     for race in races {
         let best = race.best()?;
         let each = best.map(|nanos| nanos / race.count as f64);
-        table::times(race.name, race.count, each)?;
+        table::times(race.name, race.count, &each)?;
     }
     Ok(())
 }
@@ -116,14 +132,16 @@ fn sizes([plain_sender, plain_receiver]: [usize; 2]) -> Result<(), String> {
     table::bytes("sender's record", SENDER_RECORD, plain_sender)?;
     table::bytes("receiver's record", RECEIVER_RECORD, plain_receiver)?;
     table::bytes("record of totals", TOTALS_RECORD, TOTALS_RECORD)?;
+    let plain_line = size_of::<<Plain as LineSide>::Line>();
+    table::bytes("record of a line's reader", LINE_RECORD, plain_line)?;
     table::bytes("sender's store", SENDER_STORE, SENDER_STORE)?;
     table::bytes("receiver's store", RECEIVER_STORE, RECEIVER_STORE)
 }
 
 /// The stack that the calls touch.
-fn depths(traffic: &Traffic, channel: &Channel) -> Result<(), String> {
-    let library = stack::depths::<Library>(traffic, channel).map_err(refused)?;
-    let plain = stack::depths::<Plain>(traffic, channel).map_err(refused)?;
+fn depths(work: Work<'_>) -> Result<(), String> {
+    let library = stack::depths::<Library>(work).map_err(refused)?;
+    let plain = stack::depths::<Plain>(work).map_err(refused)?;
     table::bytes_head("Stack, deepest call with its arguments, bytes")?;
     for (call, name) in stack::CALLS.into_iter().enumerate() {
         table::bytes(name, library[call], plain[call])?;

@@ -1,49 +1,49 @@
-//! Three sides over the same case: what they leave is compared, and their best turns are timed.
+//! The sides over the same case: what they leave is compared, and their best turns are timed.
 
 use std::time::Instant;
 
 /// The turns of each side; its best one counts.
 pub const TURNS: usize = 1000;
-/// The sides in the order of all arrays here.
+/// The sides in the order of all arrays here. A race of two is between the first two.
 pub const SIDES: [&str; 3] = ["library", "plain C", "reference"];
 
 /// A side's turn over a case `C`. What it answers and writes is left in `L`, which is not cleared between turns.
 pub type Turn<C, L> = fn(&C, &mut L) -> Result<(), u32>;
 
-/// A case, the turns of the three sides over it, and what each left last. `count` says how many bits or calls a turn has.
-pub struct Race<C, L> {
+/// A case, the turns of `N` sides over it, and what each left last. `count` says how many bits, bytes or calls a turn has.
+pub struct Race<C, L, const N: usize = 3> {
     pub name: &'static str,
     pub case: C,
     pub count: u64,
-    turns: [Turn<C, L>; 3],
-    left: [L; 3],
+    turns: [Turn<C, L>; N],
+    left: [L; N],
 }
 
-impl<C, L: Default + PartialEq> Race<C, L> {
-    pub fn new(name: &'static str, case: C, count: u64, turns: [Turn<C, L>; 3]) -> Race<C, L> {
+impl<C, L: Default + PartialEq, const N: usize> Race<C, L, N> {
+    pub fn new(name: &'static str, case: C, count: u64, turns: [Turn<C, L>; N]) -> Race<C, L, N> {
         Race {
             name,
             case,
             count,
             turns,
-            left: Default::default(),
+            left: turns.map(|_| L::default()),
         }
     }
 
     /// A turn of each side without a clock, an error where one is refused or they leave different things. It is made first, while all buffers are 0.
     pub fn check(&mut self) -> Result<(), String> {
-        for side in 0..SIDES.len() {
+        for side in 0..N {
             self.turn(side)?;
         }
         self.compare()
     }
 
     /// The nanoseconds of the best turn of each side. The sides take turns, in both orders, and are compared each time.
-    pub fn best(&mut self) -> Result<[f64; 3], String> {
-        let mut best = [f64::INFINITY; 3];
+    pub fn best(&mut self) -> Result<[f64; N], String> {
+        let mut best = [f64::INFINITY; N];
         for round in 0..TURNS {
-            let order = if round % 2 == 0 { [0, 1, 2] } else { [2, 1, 0] };
-            for side in order {
+            for step in 0..N {
+                let side = if round % 2 == 0 { step } else { N - 1 - step };
                 let start = Instant::now();
                 self.turn(side)?;
                 best[side] = best[side].min(start.elapsed().as_nanos() as f64);
@@ -59,7 +59,7 @@ impl<C, L: Default + PartialEq> Race<C, L> {
     }
 
     fn compare(&self) -> Result<(), String> {
-        match (1..SIDES.len()).find(|&side| self.left[side] != self.left[0]) {
+        match (1..N).find(|&side| self.left[side] != self.left[0]) {
             None => Ok(()),
             Some(side) => Err(format!(
                 "{}: {} does not give what the library gives",

@@ -1,4 +1,4 @@
-//! The three sides behind the same calls. A call gives its answer or the number of document 01's refusal.
+//! The sides behind the same calls. A call gives its answer or the number of the documents' refusal.
 
 mod library;
 mod plain;
@@ -8,7 +8,7 @@ pub use library::Library;
 pub use plain::Plain;
 pub use reference::Reference;
 
-use aes18::{SystemPacket, TOTALS_RECORD};
+use aes18::{SystemPacket, LONGEST_PACKET, TOTALS_RECORD};
 use std::ops::Range;
 
 /// One of the implementations that are timed.
@@ -16,6 +16,11 @@ pub trait Side {
     type Sender: Sender;
     type Receiver: Receiver;
     type Totals: Totals;
+}
+
+/// A side that has the serial line too.
+pub trait LineSide: Side {
+    type Line: Line;
 }
 
 /// A sender; before it is listed it has no circuits.
@@ -36,6 +41,13 @@ pub trait Totals: Default {
     fn note(&mut self, answer: &ReadAnswer) -> Result<(), u32>;
     /// Their bytes in the library's record.
     fn record(&self) -> [u8; TOTALS_RECORD];
+}
+
+/// A reader of the serial line, fresh at first, and the writing call, which needs none.
+pub trait Line: Default {
+    /// Writes a packet's frame: its bytes.
+    fn write(packet: &[u8], line: &mut [u8]) -> Result<u64, u32>;
+    fn read(&mut self, line: &[u8], packet: &mut [u8; LONGEST_PACKET]) -> Result<LineAnswer, u32>;
 }
 
 /// A message that is offered.
@@ -89,6 +101,24 @@ impl ReadAnswer {
         let start = aes18::REGION * usize::from(number);
         let length = usize::from(u16::from_le_bytes([low, high]));
         (notice == 5 && fate == 3).then_some(start..start + length)
+    }
+}
+
+/// The answer of a line's read, as the library writes it.
+#[derive(Clone, Copy, Default, PartialEq, Eq)]
+#[repr(C, align(8))]
+pub struct LineAnswer(pub [u8; 16]);
+
+impl LineAnswer {
+    /// The length of the packet, or 0.
+    pub fn packet(&self) -> usize {
+        usize::from(self.0[0])
+    }
+
+    /// The bytes read.
+    pub fn bytes(&self) -> u64 {
+        let [_, _, _, _, _, _, _, _, bytes @ ..] = self.0;
+        u64::from_le_bytes(bytes)
     }
 }
 

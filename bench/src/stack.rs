@@ -1,22 +1,28 @@
 //! How deep the calls go on the stack: each runs on a stack of its own that is filled with a pattern beforehand (stack.c).
 
 use crate::blocks::{make, Made, Traffic};
+use crate::lines::{take, write, LineBytes, Packets, Taken, Written};
 use crate::notes::{answers, note, Noted};
 use crate::reads::Channel;
-use crate::sides::{Ask, BlockAnswer, Offer, Part, ReadAnswer, Receiver, Sender, Side, Totals};
-use aes18::TOTALS_RECORD;
+use crate::sides::{
+    Ask, BlockAnswer, Line, LineAnswer, LineSide, Offer, Part, ReadAnswer, Receiver, Sender, Side,
+    Totals,
+};
+use aes18::{LONGEST_PACKET, TOTALS_RECORD};
 use std::cell::Cell;
 use std::ffi::c_void;
 use std::marker::PhantomData;
 
 /// The names of the calls.
-pub const CALLS: [&str; 6] = [
+pub const CALLS: [&str; 8] = [
     "sender_list",
     "sender_offer",
     "sender_block",
     "receiver_list",
     "receiver_read",
     "totals_note",
+    "line_write",
+    "line_read",
 ];
 
 /// The number of a call among them.
@@ -28,19 +34,32 @@ enum Call {
     ReceiverList,
     ReceiverRead,
     TotalsNote,
+    LineWrite,
+    LineRead,
+}
+
+/// What the calls are made over: blocks of the traffic are made, the channel is read and noted, the packets are written and the line is read.
+#[derive(Clone, Copy)]
+pub struct Work<'a> {
+    pub traffic: &'a Traffic,
+    pub channel: &'a Channel,
+    pub packets: &'a Packets,
+    pub line: &'a LineBytes,
 }
 
 thread_local! {
     /// The bytes that the deepest of each of these calls has touched.
-    static DEEPEST: Cell<[usize; 6]> = const { Cell::new([0; 6]) };
+    static DEEPEST: Cell<[usize; CALLS.len()]> = const { Cell::new([0; CALLS.len()]) };
 }
 
-/// The bytes that the deepest of each of these calls touches while the traffic's blocks are made and the channel is read and noted.
-pub fn depths<S: Side>(traffic: &Traffic, channel: &Channel) -> Result<[usize; 6], u32> {
-    DEEPEST.set([0; 6]);
-    make::<Painted<S>>(traffic, &mut Made::default())?;
-    let answers = answers::<Painted<S>>(channel)?;
+/// The bytes that the deepest of each of these calls touches while the work is done.
+pub fn depths<S: LineSide>(work: Work<'_>) -> Result<[usize; CALLS.len()], u32> {
+    DEEPEST.set([0; CALLS.len()]);
+    make::<Painted<S>>(work.traffic, &mut Made::default())?;
+    let answers = answers::<Painted<S>>(work.channel)?;
     note::<Painted<S>>(&answers, &mut Noted::default())?;
+    write::<Painted<S>>(work.packets, &mut Written::default())?;
+    take::<Painted<S>>(work.line, &mut Taken::default())?;
     Ok(DEEPEST.get())
 }
 
@@ -74,6 +93,10 @@ impl<S: Side> Side for Painted<S> {
     type Sender = PaintedSender<S::Sender>;
     type Receiver = PaintedReceiver<S::Receiver>;
     type Totals = PaintedTotals<S::Totals>;
+}
+
+impl<S: LineSide> LineSide for Painted<S> {
+    type Line = PaintedLine<S::Line>;
 }
 
 #[derive(Default)]
@@ -116,5 +139,18 @@ impl<E: Totals> Totals for PaintedTotals<E> {
 
     fn record(&self) -> [u8; TOTALS_RECORD] {
         self.0.record()
+    }
+}
+
+#[derive(Default)]
+struct PaintedLine<E>(E);
+
+impl<E: Line> Line for PaintedLine<E> {
+    fn write(packet: &[u8], line: &mut [u8]) -> Result<u64, u32> {
+        painted(Call::LineWrite, || E::write(packet, line))
+    }
+
+    fn read(&mut self, line: &[u8], packet: &mut [u8; LONGEST_PACKET]) -> Result<LineAnswer, u32> {
+        painted(Call::LineRead, || self.0.read(line, packet))
     }
 }

@@ -9,26 +9,38 @@ pub fn say(line: &str) -> Result<(), String> {
         .map_err(|error| format!("the output cannot be written: {error}"))
 }
 
-/// The head of a table of times, of which each is for one of the unit.
-pub fn times_head(title: &str, unit: &str) -> Result<(), String> {
-    let [library, plain, reference] = SIDES;
+/// The number of plain C among the sides.
+const PLAIN: usize = 1;
+
+/// The head of a table of times of so many sides, of which each is for one of the unit.
+pub fn times_head(title: &str, unit: &str, sides: usize) -> Result<(), String> {
     let title = format!("{title}, ns per {unit}");
-    say(&format!(
-        "\n{title:36}{:>10}{library:>11}{plain:>11}{reference:>11}{:>11}{:>13}",
-        format!("{unit}s"),
-        "library/C",
-        "reference/C"
-    ))
+    let mut line = format!("\n{title:36}{:>10}", format!("{unit}s"));
+    for side in &SIDES[..sides] {
+        line += &format!("{side:>11}");
+    }
+    for side in ratios(sides) {
+        line += &format!("  {}/C", SIDES[side]);
+    }
+    say(&line)
 }
 
-/// A row of times: how much a turn has of the unit, the nanoseconds of the three sides for one, and their ratios to plain C.
-pub fn times(name: &str, count: u64, nanos: [f64; 3]) -> Result<(), String> {
-    let [library, plain, reference] = nanos;
-    say(&format!(
-        "{name:36}{count:>10}{library:>11.2}{plain:>11.2}{reference:>11.2}{:>11.2}{:>13.2}",
-        library / plain,
-        reference / plain
-    ))
+/// A row of times: how much a turn has of the unit, the nanoseconds of the sides for one, and their ratios to plain C.
+pub fn times(name: &str, count: u64, nanos: &[f64]) -> Result<(), String> {
+    let mut line = format!("{name:36}{count:>10}");
+    for nanos in nanos {
+        line += &format!("{nanos:>11.2}");
+    }
+    for side in ratios(nanos.len()) {
+        let width = SIDES[side].len() + 4;
+        line += &format!("{:>width$.2}", nanos[side] / nanos[PLAIN]);
+    }
+    say(&line)
+}
+
+/// The sides that have a ratio to plain C, of so many.
+fn ratios(sides: usize) -> impl Iterator<Item = usize> {
+    (0..sides).filter(|&side| side != PLAIN)
 }
 
 /// The head of a table of bytes.

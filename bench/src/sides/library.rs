@@ -1,7 +1,10 @@
 //! The library through its functions in C.
 
-use super::{answered, Ask, BlockAnswer, Offer, Part, ReadAnswer, Receiver, Sender, Side, Totals};
-use aes18::{ffi, RECEIVER_RECORD, SENDER_RECORD, TOTALS_RECORD};
+use super::{
+    answered, Ask, BlockAnswer, Line, LineAnswer, LineSide, Offer, Part, ReadAnswer, Receiver,
+    Sender, Side, Totals,
+};
+use aes18::{ffi, LINE_RECORD, LONGEST_PACKET, RECEIVER_RECORD, SENDER_RECORD, TOTALS_RECORD};
 
 pub struct Library;
 
@@ -9,6 +12,10 @@ impl Side for Library {
     type Sender = LibrarySender;
     type Receiver = LibraryReceiver;
     type Totals = LibraryTotals;
+}
+
+impl LineSide for Library {
+    type Line = LibraryLine;
 }
 
 pub struct LibrarySender([u8; SENDER_RECORD]);
@@ -135,5 +142,48 @@ impl Totals for LibraryTotals {
 
     fn record(&self) -> [u8; TOTALS_RECORD] {
         self.0
+    }
+}
+
+pub struct LibraryLine([u8; LINE_RECORD]);
+
+impl Default for LibraryLine {
+    fn default() -> LibraryLine {
+        LibraryLine([0; LINE_RECORD])
+    }
+}
+
+impl Line for LibraryLine {
+    fn write(packet: &[u8], line: &mut [u8]) -> Result<u64, u32> {
+        let mut answer = [0; 8];
+        answered(unsafe {
+            ffi::aes18_line_write(
+                packet.as_ptr(),
+                packet.len(),
+                line.as_mut_ptr(),
+                line.len(),
+                answer.as_mut_ptr(),
+                answer.len(),
+            )
+        })?;
+        Ok(u64::from_le_bytes(answer))
+    }
+
+    fn read(&mut self, line: &[u8], packet: &mut [u8; LONGEST_PACKET]) -> Result<LineAnswer, u32> {
+        let record = &mut self.0;
+        let mut answer = LineAnswer::default();
+        answered(unsafe {
+            ffi::aes18_line_read(
+                record.as_mut_ptr(),
+                record.len(),
+                line.as_ptr(),
+                line.len(),
+                packet.as_mut_ptr(),
+                packet.len(),
+                answer.0.as_mut_ptr(),
+                answer.0.len(),
+            )
+        })?;
+        Ok(answer)
     }
 }

@@ -1,7 +1,10 @@
 //! Plain C: plain.c, as bench.h declares it.
 
-use super::{answered, Ask, BlockAnswer, Offer, Part, ReadAnswer, Receiver, Sender, Side, Totals};
-use aes18::TOTALS_RECORD;
+use super::{
+    answered, Ask, BlockAnswer, Line, LineAnswer, LineSide, Offer, Part, ReadAnswer, Receiver,
+    Sender, Side, Totals,
+};
+use aes18::{LONGEST_PACKET, TOTALS_RECORD};
 use std::ptr;
 
 pub struct Plain;
@@ -10,6 +13,10 @@ impl Side for Plain {
     type Sender = PlainSender;
     type Receiver = PlainReceiver;
     type Totals = PlainTotals;
+}
+
+impl LineSide for Plain {
+    type Line = PlainLine;
 }
 
 /// Room for either struct of plain.c, which says how much of it is used.
@@ -27,6 +34,11 @@ pub struct PlainReceiver(Room);
 #[derive(Default)]
 #[repr(C)]
 pub struct PlainTotals([u32; TOTALS_RECORD / 4]);
+
+/// Three numbers of a byte each, and the bytes behind the last flag.
+#[derive(Default)]
+#[repr(C)]
+pub struct PlainLine([u8; 3], [u8; 21]);
 
 #[repr(C)]
 struct PlainSystem {
@@ -73,6 +85,20 @@ extern "C" {
         answer: *mut ReadAnswer,
     ) -> u32;
     fn plain_totals_note(t: *mut PlainTotals, answer: *const ReadAnswer) -> u32;
+    fn plain_line_write(
+        packet: *const u8,
+        packet_len: usize,
+        line: *mut u8,
+        line_len: usize,
+        written: *mut u64,
+    ) -> u32;
+    fn plain_line_read(
+        r: *mut PlainLine,
+        line: *const u8,
+        line_len: usize,
+        packet: *mut [u8; LONGEST_PACKET],
+        answer: *mut LineAnswer,
+    ) -> u32;
 }
 
 impl Plain {
@@ -89,8 +115,9 @@ impl Plain {
     }
 }
 
-// SAFETY of the calls below: a record has room for the struct (`record_sizes`), totals and an answer are laid out as their structs, each other
-// pointer is of a slice and passed with its length, and nothing that is written overlaps anything else.
+// SAFETY of the calls below: a record has room for the struct (`record_sizes`), totals, a line's reader and an answer are laid out as their structs,
+// a packet that is read has room for the longest, each other pointer is of a slice and passed with its length, and nothing that is written overlaps
+// anything else.
 
 impl Sender for PlainSender {
     fn list(&mut self, list: &[u8]) -> Result<(), u32> {
@@ -171,5 +198,27 @@ impl Totals for PlainTotals {
             bytes.copy_from_slice(&figure.to_le_bytes());
         }
         record
+    }
+}
+
+impl Line for PlainLine {
+    fn write(packet: &[u8], line: &mut [u8]) -> Result<u64, u32> {
+        let mut written = 0;
+        answered(unsafe {
+            plain_line_write(
+                packet.as_ptr(),
+                packet.len(),
+                line.as_mut_ptr(),
+                line.len(),
+                &mut written,
+            )
+        })?;
+        Ok(written)
+    }
+
+    fn read(&mut self, line: &[u8], packet: &mut [u8; LONGEST_PACKET]) -> Result<LineAnswer, u32> {
+        let mut answer = LineAnswer::default();
+        answered(unsafe { plain_line_read(self, line.as_ptr(), line.len(), packet, &mut answer) })?;
+        Ok(answer)
     }
 }
