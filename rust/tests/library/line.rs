@@ -290,23 +290,24 @@ fn counts_in_records() {
     }
 }
 
-/// What the safe types cannot pass: a record, a packet's place or an answer that is too short, and longer ones.
+/// What the safe types cannot pass to a read: a record, a packet's place or an answer that is too short or longer than it has to be.
 #[test]
-fn raw_calls() {
+fn raw_reads() {
     let line = frame(b"abc");
     let (mut record, mut packet, mut answer) = ([0; 30], [0xAA; 25], [0xAA; 20]);
-    let mut read = |lengths: [usize; 3]| {
+    record[24..].fill(0xAA);
+    let mut read = |[record_len, packet_len, answer_len]: [usize; 3]| {
         // SAFETY: the line is a slice; the other arrays are valid for these lengths, which are not above theirs, and overlap nothing.
         unsafe {
             ffi::aes18_line_read(
                 record.as_mut_ptr(),
-                lengths[0],
+                record_len,
                 line.as_ptr(),
                 line.len(),
                 packet.as_mut_ptr(),
-                lengths[1],
+                packet_len,
                 answer.as_mut_ptr(),
-                lengths[2],
+                answer_len,
             )
         }
     };
@@ -314,34 +315,31 @@ fn raw_calls() {
         assert_eq!(read(lengths), 255);
     }
     assert_eq!(read([30, 25, 20]), 0);
-    assert_eq!(record[24..], [0; 6]);
+    assert_eq!(record[24..], [0xAA; 6]);
     assert_eq!((&packet[..3], &packet[3..]), (&b"abc"[..], &[0xAA; 22][..]));
-    assert_eq!(
-        answer[..16],
-        [
-            3,
-            0,
-            0,
-            0,
-            0,
-            0,
-            0,
-            0,
-            line.len() as u8,
-            0,
-            0,
-            0,
-            0,
-            0,
-            0,
-            0
-        ]
-    );
+    assert_eq!(answer[..8], [3, 0, 0, 0, 0, 0, 0, 0]);
+    assert_eq!(answer[8..16], (line.len() as u64).to_le_bytes());
     assert_eq!(answer[16..], [0xAA; 4]);
-    let mut line = [0xAA; 44];
-    // SAFETY: the packet is a slice, line and answer are valid for these lengths, which are not above theirs, and overlap nothing.
-    let wrote = unsafe {
-        ffi::aes18_line_write([].as_ptr(), 0, line.as_mut_ptr(), 0, answer.as_mut_ptr(), 7)
+}
+
+/// What the safe types cannot pass to a write: an answer that is too short, which comes before all else.
+#[test]
+fn raw_writes() {
+    let (mut line, mut answer) = ([0xAA; 5], [0xAA; 7]);
+    let (line, answer) = (&mut line[..], &mut answer[..]);
+    // SAFETY: the packet has no bytes, line and answer are slices, and nothing overlaps.
+    let number = unsafe {
+        ffi::aes18_line_write(
+            core::ptr::null(),
+            0,
+            line.as_mut_ptr(),
+            line.len(),
+            answer.as_mut_ptr(),
+            answer.len(),
+        )
     };
-    assert_eq!(wrote, 255);
+    assert_eq!(
+        (number, &*line, &*answer),
+        (255, &[0xAA; 5][..], &[0xAA; 7][..])
+    );
 }
