@@ -87,7 +87,7 @@ bits read 2000; System 0, Spoilt 1, Malformed 0, Elsewhere 0
 
 /// A torn pass in which no figure is like another of its line. Of ten packets eight are lost in a row, which looks like none, so the last does not
 /// fit; of six two are lost, which is told, and the three behind them are orphans.
-fn torn_pass(name: &str) -> Folder {
+pub fn torn_pass(name: &str) -> Folder {
     let folder = Folder::new(name);
     folder.write("ten", [b'a'; 150]);
     folder.write("six", [b'a'; 90]);

@@ -1,4 +1,4 @@
-//! A long pass is read with constant memory.
+//! A long pass and a long line are read with constant memory.
 #![cfg(target_os = "linux")]
 
 use std::fs::{self, File};
@@ -23,42 +23,82 @@ fn plan() -> String {
     plan
 }
 
-#[test]
-fn a_long_pass_takes_little_memory() {
-    let folder = Folder::new("long");
+/// Files the pass as often as it takes for that many bytes, as `long`; answers how often.
+fn repeat(folder: &Folder, bytes: usize) -> usize {
     folder.write("plan", plan());
     assert_eq!(folder.run(&["encode", "plan", "-o", "pass"]).status, 0);
     let pass = folder.read("pass");
-    let times = LONG.div_ceil(pass.len());
+    let times = bytes.div_ceil(pass.len());
     let mut long = BufWriter::new(File::create(folder.path("long")).unwrap());
     for _ in 0..times {
         long.write_all(&pass).unwrap();
     }
     long.into_inner().unwrap();
+    times
+}
 
-    let mut command = folder.command(&["decode", "--circuits", "01,02:07", "long"]);
+/// Runs the program with little memory; answers the last part of its standard output, and the standard error.
+fn run(folder: &Folder, arguments: &[&str]) -> (Vec<u8>, String) {
+    let mut command = folder.command(arguments);
     command.stdout(Stdio::piped()).stderr(Stdio::piped());
     let mut child = command.spawn().unwrap();
     let (end, memory) = follow(&mut child);
     let output = child.wait_with_output().unwrap();
     assert!(output.status.success());
-    assert_eq!(output.stderr, b"", "a bar where there is no terminal");
     assert!((1..MOST).contains(&memory), "{memory} kB");
+    (end, String::from_utf8(output.stderr).unwrap())
+}
+
+/// The totals of the repeated pass.
+fn totals(times: usize, read: &str) -> String {
     let messages = 40 * times;
-    let totals = format!(
+    format!(
         "\n01      {:10}         0         0{messages:10}{:10}         0         0\n\
          02:07   {messages:10}         0         0{messages:10}{:10}         0         0\n\
-         bits read {}; System 0, Spoilt 0, Malformed 0, Elsewhere 0\n",
+         {read}, Malformed 0, Elsewhere 0\n",
         8 * messages,
         115 * messages,
         11 * messages,
-        8 * pass.len() * times
+    )
+}
+
+#[test]
+fn a_long_pass_takes_little_memory() {
+    let folder = Folder::new("long");
+    let times = repeat(&folder, LONG);
+    let (end, err) = run(&folder, &["decode", "--circuits", "01,02:07", "long"]);
+    assert_eq!(err, "", "a bar where there is no terminal");
+    let bits = 8 * folder.read("pass").len() * times;
+    let totals = totals(times, &format!("bits read {bits}; System 0, Spoilt 0"));
+    let end = String::from_utf8(end).unwrap();
+    assert!(end.ends_with(&totals), "{end}");
+}
+
+#[test]
+fn a_long_line_takes_little_memory() {
+    let folder = Folder::new("long-line");
+    let times = repeat(&folder, LONG / 4);
+    assert_eq!(folder.run(&["line", "pass", "-o", "once"]).status, 0);
+    let once = folder.read("once");
+    let bytes = once.len() * times;
+    let (end, err) = run(&folder, &["line", "long", "-o", "-"]);
+    assert!(!end.is_empty() && once.ends_with(&end));
+    let packets = 9 * 40 * times;
+    let summary = format!("{packets} packets, {bytes} bytes; spoilt frames left out: 0\n");
+    assert_eq!(err, summary);
+    assert_eq!(folder.run(&["line", "long", "-o", "line"]).status, 0);
+    let (end, err) = run(
+        &folder,
+        &["decode", "--line", "--circuits=01,02:07", "line"],
     );
+    assert_eq!(err, "");
+    let totals = totals(times, &format!("bytes read {bytes}; System 0, Dropped 0"));
+    let end = String::from_utf8(end).unwrap();
     assert!(end.ends_with(&totals), "{end}");
 }
 
 /// The last part of what the program writes, and the most memory that it took, in kB.
-fn follow(child: &mut Child) -> (String, u64) {
+fn follow(child: &mut Child) -> (Vec<u8>, u64) {
     let mut out = child.stdout.take().unwrap();
     let mut end = Vec::new();
     let mut memory = 0;
@@ -66,7 +106,7 @@ fn follow(child: &mut Child) -> (String, u64) {
     loop {
         let count = out.read(&mut buffer).unwrap();
         if count == 0 {
-            return (String::from_utf8(end).unwrap(), memory);
+            return (end, memory);
         }
         end.extend_from_slice(&buffer[..count]);
         end.drain(..end.len().saturating_sub(1000));

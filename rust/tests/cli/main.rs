@@ -2,7 +2,12 @@
 
 mod decode;
 mod encode;
+// Made by hand as for the library's tests, of which not all is needed here.
+#[allow(dead_code)]
+#[path = "../library/frames.rs"]
+mod frames;
 mod json;
+mod line;
 mod long;
 mod runs;
 mod usage;

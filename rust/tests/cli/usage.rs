@@ -8,12 +8,18 @@ fn help() {
     for option in ["--help", "-h"] {
         let told = folder.run(&[option]).told();
         assert!(told.contains("aes18 encode PLAN -o BITS"), "{told}");
-        for subcommand in ["encode", "decode", "show"] {
+        for subcommand in ["encode", "decode", "show", "line"] {
             let told = folder.run(&[subcommand, option]).told();
             assert!(
                 told.contains(&format!("Usage: aes18 {subcommand}")),
                 "{told}"
             );
+        }
+    }
+    for subcommand in [&[][..], &["encode"], &["decode"], &["line"]] {
+        let told = folder.run(&[subcommand, &["--help"]].concat()).told();
+        for line in told.lines() {
+            assert!(line.len() <= 80, "{line}");
         }
     }
     let told = folder.run(&["decode", "--help"]).told();
@@ -25,12 +31,14 @@ fn help() {
 #[test]
 fn wrong_usage() {
     const CIRCUIT: &str = "--circuits: expected a circuit ADDR or ADDR:EXT, each one or two hex digits, such as 01 or 02:07";
+    const SUBCOMMAND: &str = "expected encode, decode, show or line";
+    let the_bits = "expected another file for LINE than BITS";
     let the_plan = "expected another file for BITS than PLAN";
     let no_circuits = "the option --circuits needs a list of circuits";
-    let cases: [(&[&str], &str); 15] = [
-        (&[], "expected encode, decode or show"),
-        (&["send"], "expected encode, decode or show, not 'send'"),
-        (&["--json"], "expected encode, decode or show, not '--json'"),
+    let cases: [(&[&str], &str); 23] = [
+        (&[], SUBCOMMAND),
+        (&["send"], &format!("{SUBCOMMAND}, not 'send'")),
+        (&["--json"], &format!("{SUBCOMMAND}, not '--json'")),
         (&["encode"], "expected a plan"),
         (&["encode", "plan"], "expected -o BITS"),
         (
@@ -55,12 +63,29 @@ fn wrong_usage() {
             &["decode", "--circuits=01,2x", "a"],
             &format!("{CIRCUIT}, not '2x'"),
         ),
+        (
+            &["decode", "--line", "--circuits=01"],
+            "expected a file of a serial line",
+        ),
+        (
+            &["decode", "--line=a", "--circuits=01"],
+            "the option --line takes no value",
+        ),
+        (&["line"], "expected a file of user bits"),
+        (&["line", "bits"], "expected -o LINE"),
+        (
+            &["line", "bits", "-o"],
+            "the option -o needs a file for the line",
+        ),
+        (&["line", "a", "b", "-o", "c"], "'b' is one file too many"),
+        (&["line", "--circuits=01", "a"], "no option '--circuits'"),
+        (&["line", "there", "-o", "./there"], the_bits),
     ];
     let folder = Folder::new("usage");
     folder.write("there", "circuits 01\n");
     for (arguments, message) in cases {
         let see = match arguments.first() {
-            Some(name @ (&"encode" | &"decode")) => format!("aes18 {name}"),
+            Some(name @ (&"encode" | &"decode" | &"line")) => format!("aes18 {name}"),
             _ => "aes18".to_string(),
         };
         let message = format!("aes18: {message}\nSee {see} --help.\n");

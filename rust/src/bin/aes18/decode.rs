@@ -1,37 +1,43 @@
-//! `aes18 decode`: what is in filed user bits.
+//! `aes18 decode`: what is in filed user bits, or on a serial line.
 
 mod counts;
 mod folder;
 mod format;
 mod json;
+mod line;
 mod progress;
 mod text;
 
 use std::ffi::OsString;
 use std::io::{self, BufWriter, Write};
 
-use aes18::{Circuit, Notice, Receiver, RECEIVER_STORE};
+use aes18::{Circuit, Notice, Read, Receiver, RECEIVER_STORE};
 
 use crate::args::{self, Arg, Args};
 use crate::circuits;
 use crate::error::Error;
+use crate::frames;
 use crate::input::Input;
 use crate::output::Unread;
 use counts::Counts;
 use folder::Folder;
-use format::{Format, Told};
+use format::{Format, Told, Unit};
 use json::Json;
+use line::Line;
 use progress::Progress;
 use text::Text;
 
-pub const HELP: &str = r#"aes18 decode: tell what is in filed user bits
+pub const HELP: &str = r#"aes18 decode: tell what is in filed user bits, or on a serial line
 
 Usage: aes18 decode --circuits ADDR[:EXT],.. [--json] [--messages DIR] BITS
+       aes18 decode --line --circuits ADDR[:EXT],.. [..] LINE
 
   BITS               the file of user bits, eight in a byte, the first in the
                      lowest bit, or - for the standard input
-  --circuits LIST    one to four circuits to listen to, such as 01,02:07: address
-                     and extension in hex, divided by commas or spaces
+  --line             read the bytes of a serial line, such as aes18 line writes,
+                     in place of user bits
+  --circuits LIST    one to four circuits to listen to, such as 01,02:07:
+                     address and extension in hex, divided by commas or spaces
   --json             one JSON object a line
   --messages DIR     write each message handed over to a file of its own in DIR,
                      which is made where it is missing: 000001-01.bin, then
@@ -43,7 +49,7 @@ A line for each notice: how many bits were read when it was told, which is the
 number, from 0, of the first bit behind the closing flag; then
 
   02:07, loss 0, Whole, length 10: "charge 71%"
-        a packet of a listed circuit; the packets lost before it; what became of it:
+        a packet of a listed circuit; the packets lost before it; its fate:
         Copy    it repeats the circuit's last packet
         Begun   it begins a message, and more is due
         Held    it goes on with the message, and more is due
@@ -56,20 +62,31 @@ number, from 0, of the first bit behind the closing flag; then
   Malformed    a frame that is no packet such as a sender makes
   Elsewhere    a packet of a circuit that is not listed
 
-Messages and information are quoted text with escapes or hex digits, as a plan of
-aes18 encode takes them. At the end stand the totals: for each circuit the packets
-that came, copies not counted; the copies; the packets lost; messages handed over
-and their bytes; orphans; and wrong ones. Lost, messages, bytes and orphans stop at
-4,294,967,295, which stands for that many or more.
+Messages and information are quoted text with escapes or hex digits, as a plan
+of aes18 encode takes them. At the end stand the totals: for each circuit the
+packets that came, copies not counted; the copies; the packets lost; messages
+handed over and their bytes; orphans; and wrong ones. Lost, messages, bytes and
+orphans stop at 4,294,967,295, which stands for that many or more.
 
 With --json a notice has the members bit and notice; System enable and code; a
 circuit's number, circuit, loss and fate; Whole and System also length, hex and,
 if it is printable text, text; and with --messages file. The last object has the
 one member totals.
 
-Where the standard error is a terminal and the standard output is not, a bar shows
-how far a long reading has come.
-Exit status: 0; 1 for a refusal or a file that cannot be read; 2 for wrong usage.
+LINE has the octet-stuffed frames of RFC 1662, or - is the standard input. A
+packet on it is told as it would be out of user bits. Its place is how many
+bytes of the line were read when it was told: the number, from 0, of the first
+byte behind the closing flag. The totals have the bytes read in place of the
+bits, and --json the members byte and bytes. A frame is dropped without a
+notice if its FCS is wrong, if its packet is outside 2 to 19 bytes or if its
+escape is followed by a flag. So there is no Spoilt, and in its place the
+totals have Dropped: how often the bytes between two flags gave no packet.
+Bytes before the first flag are skipped.
+
+Where the standard error is a terminal and the standard output is not, a bar
+shows how far a long reading has come.
+Exit status: 0; 1 for a refusal or a file that cannot be read; 2 for wrong
+usage.
 "#;
 
 /// What the command line asks for.
@@ -77,23 +94,26 @@ struct Request {
     circuits: Vec<Circuit>,
     json: bool,
     messages: Option<OsString>,
-    bits: OsString,
+    line: bool,
+    file: OsString,
 }
 
 /// Runs the subcommand. Where messages are written to files, a standard output that is closed does not end the reading.
 pub fn run(args: Args) -> Result<(), Error> {
     let request = Request::parse(args)?;
     let receiver = circuits::receiver(&request.circuits)?;
-    let mut input = Input::open(&request.bits)?;
+    let mut input = Input::open(&request.file)?;
     let folder = request.messages.as_deref().map(Folder::open).transpose()?;
     let stdout: Box<dyn Write> = match folder {
         Some(_) => Box::new(Unread(io::stdout().lock())),
         None => Box::new(io::stdout().lock()),
     };
     let mut decoder = Decoder {
+        name: input.name().to_string(),
         receiver,
         store: vec![0; RECEIVER_STORE],
-        counts: Counts::new(&request.circuits),
+        line: Line::default(),
+        counts: Counts::new(request.unit(), &request.circuits),
         circuits: request.circuits,
         folder,
         format: if request.json { &Json } else { &Text },
@@ -113,16 +133,18 @@ impl Request {
         let mut circuits = None;
         let mut json = false;
         let mut messages = None;
-        let mut bits = None;
+        let mut line = false;
+        let mut file = None;
         while let Some(arg) = args.next()? {
             match arg {
                 Arg::Option(name) => match name.as_str() {
                     "--circuits" => circuits = Some(args.value("a list of circuits")?),
                     "--messages" => messages = Some(args.value("a folder")?),
                     "--json" => json = true,
+                    "--line" => line = true,
                     _ => return Err(args::unknown_option(&name)),
                 },
-                Arg::Operand(path) => args::keep_operand(&mut bits, path)?,
+                Arg::Operand(path) => args::keep_operand(&mut file, path)?,
             }
         }
         let expected = |what: &str| Error::Usage(format!("expected {what}"));
@@ -131,15 +153,30 @@ impl Request {
             circuits: circuits::option(&circuits)?,
             json,
             messages,
-            bits: bits.ok_or_else(|| expected("a file of user bits"))?,
+            line,
+            file: file.ok_or_else(|| match line {
+                true => expected("a file of a serial line"),
+                false => expected("a file of user bits"),
+            })?,
         })
+    }
+
+    /// What places are counted in.
+    fn unit(&self) -> Unit {
+        match self.line {
+            true => Unit::Byte,
+            false => Unit::Bit,
+        }
     }
 }
 
 /// A receiver at work, with what it has told so far.
 struct Decoder {
+    /// The file that is read, for messages.
+    name: String,
     receiver: Receiver,
     store: Vec<u8>,
+    line: Line,
     circuits: Vec<Circuit>,
     counts: Counts,
     folder: Option<Folder>,
@@ -148,23 +185,69 @@ struct Decoder {
 }
 
 impl Decoder {
-    /// Reads the next bytes' bits and tells their notices.
+    /// Reads the next bytes and tells their notices.
     fn read(&mut self, bytes: &[u8]) -> Result<(), Error> {
-        let first = self.counts.bits;
+        match self.counts.unit {
+            Unit::Bit => self.read_bits(bytes)?,
+            Unit::Byte => self.read_line(bytes)?,
+        }
+        self.out.flush().map_err(|error| Error::stdout(&error))
+    }
+
+    /// Reads bytes of user bits.
+    fn read_bits(&mut self, bytes: &[u8]) -> Result<(), Error> {
         let to = 8 * bytes.len() as u64;
         let mut from = 0;
         loop {
-            let read = self
-                .receiver
-                .read(&mut self.store, bytes, from, to)
-                .map_err(|refusal| Error::Data(refusal.to_string()))?;
+            let read = self.receive(bytes, from, to)?;
             from += read.bits;
-            self.counts.bits = first + from;
+            self.counts.read += read.bits;
             if read.notice == Notice::End {
-                return self.out.flush().map_err(|error| Error::stdout(&error));
+                return Ok(());
             }
             self.tell(read.notice)?;
         }
+    }
+
+    /// Reads bytes of a serial line. Each packet goes to the receiver as a frame in user bits.
+    fn read_line(&mut self, mut bytes: &[u8]) -> Result<(), Error> {
+        loop {
+            let read = self.line.read(bytes);
+            bytes = &bytes[read.bytes..];
+            self.counts.read += read.bytes as u64;
+            self.counts.dropped = self.line.dropped();
+            match read.packet {
+                Some(packet) => self.read_packet(&packet)?,
+                None => return Ok(()),
+            }
+        }
+    }
+
+    /// Reads a packet of a serial line, which is one notice of a frame that passes.
+    fn read_packet(&mut self, packet: &[u8]) -> Result<(), Error> {
+        let checked = frames::with_fcs(packet);
+        let frame = frames::in_bits(&checked.map_err(|refusal| Error::Data(refusal.to_string()))?);
+        let read = self.receive(&frame.bytes, 0, frame.count)?;
+        match read.notice {
+            Notice::Spoilt | Notice::End => Err(self.fault()),
+            _ if read.bits < frame.count => Err(self.fault()),
+            notice => self.tell(notice),
+        }
+    }
+
+    /// A call of the receiver.
+    fn receive(&mut self, bits: &[u8], from: u64, to: u64) -> Result<Read, Error> {
+        self.receiver
+            .read(&mut self.store, bits, from, to)
+            .map_err(|refusal| Error::Data(refusal.to_string()))
+    }
+
+    /// The error where the receiver does not take a packet of the line for one.
+    fn fault(&self) -> Error {
+        Error::Data(format!(
+            "{}: byte {}: the frame before this byte has a right FCS, and aes18 put it wrongly into user bits: an error of aes18 itself",
+            self.name, self.counts.read
+        ))
     }
 
     /// Counts a notice, files its message and tells it.
@@ -178,7 +261,8 @@ impl Decoder {
             _ => None,
         };
         let told = Told {
-            bit: self.counts.bits,
+            unit: self.counts.unit,
+            place: self.counts.read,
             notice,
             circuits: &self.circuits,
             bytes: message.or_else(|| notice.information(&self.store)),

@@ -73,6 +73,12 @@ impl Draft {
     }
 }
 
+/// Whether two names, of which `-` names no file, stand for the same file.
+pub fn same_file(one: &OsStr, other: &OsStr) -> bool {
+    let file = |name: &OsStr| fs::canonicalize(name).ok().filter(|_| name != "-");
+    file(one).is_some_and(|path| file(other) == Some(path))
+}
+
 /// Writes over a file's first bytes and answers its length.
 fn write_over(file: &mut BufWriter<File>, first: &[u8]) -> io::Result<u64> {
     let length = file.stream_position()?;

@@ -6,12 +6,11 @@ mod sending;
 mod summary;
 mod words;
 
-use std::ffi::{OsStr, OsString};
-use std::fs;
+use std::ffi::OsString;
 use std::io::{self, Write};
 
 use crate::args::{self, Arg, Args};
-use crate::draft::Draft;
+use crate::draft::{self, Draft};
 use crate::error::Error;
 use crate::output::say;
 use join::Join;
@@ -24,7 +23,8 @@ pub const HELP: &str = r#"aes18 encode: make the user bits that a plan asks for
 Usage: aes18 encode PLAN -o BITS
 
   PLAN                 the plan, a text file, or - for the standard input
-  -o, --output BITS    the file of user bits to write, or - for the standard output
+  -o, --output BITS    the file of user bits to write, or - for the standard
+                       output
   -h, --help           print this help
 
 A plan has one line for each call of the sender, in their order. Empty lines and
@@ -40,9 +40,9 @@ what stands behind a # are skipped.
         Make a block of N user bits of which U may be used, in front a system
         packet if one is asked for: enable bits 0 to 15, block code 0 to 8.
 
-MESSAGE and INFORMATION are hex digits in pairs, "text" with the escapes \" \\ \n
-\t \xHH, @file or @"file" with a name that starts at the plan's folder, or - for
-no bytes. Numbers are decimal, or hex behind 0x.
+MESSAGE and INFORMATION are hex digits in pairs, "text" with the escapes \" \\
+\n \t \xHH, @file or @"file" with a name that starts at the plan's folder, or -
+for no bytes. Numbers are decimal, or hex behind 0x.
 
   circuits 01 02:07
   offer 0 1 0 "charge 71%"
@@ -51,8 +51,8 @@ no bytes. Numbers are decimal, or hex behind 0x.
   block 605 605 system 15 2 "sunlit"
 
 BITS gets the user bits of all blocks, joined bit by bit, eight in a byte, the
-first in the lowest bit; up to seven 0 bits fill the last byte. Where anything is
-wrong nothing is written. What was made is told on the standard error.
+first in the lowest bit; up to seven 0 bits fill the last byte. Where anything
+is wrong nothing is written. What was made is told on the standard error.
 Exit status: 0; 1 for a refusal or a wrong plan; 2 for wrong usage.
 "#;
 
@@ -89,17 +89,11 @@ impl Request {
         let expected = |what: &str| Error::Usage(format!("expected {what}"));
         let plan = plan.ok_or_else(|| expected("a plan"))?;
         let bits = bits.ok_or_else(|| expected("-o BITS"))?;
-        match same_file(&plan, &bits) {
+        match draft::same_file(&plan, &bits) {
             true => Err(expected("another file for BITS than PLAN")),
             false => Ok(Request { plan, bits }),
         }
     }
-}
-
-/// Whether two names, of which `-` names no file, stand for the same file.
-fn same_file(one: &OsStr, other: &OsStr) -> bool {
-    let file = |name: &OsStr| fs::canonicalize(name).ok().filter(|_| name != "-");
-    file(one).is_some_and(|path| file(other) == Some(path))
 }
 
 /// Writes the joined bits of the plan's blocks and answers what there is to tell of them.

@@ -1,4 +1,4 @@
-//! The tool `aes18`: makes user bits from a plan, and tells what is in filed ones.
+//! The tool `aes18`: makes user bits from a plan, tells what is in filed ones, and writes their packets for a serial line.
 
 #![forbid(unsafe_code)]
 
@@ -8,7 +8,10 @@ mod decode;
 mod draft;
 mod encode;
 mod error;
+mod extents;
+mod frames;
 mod input;
+mod line;
 mod output;
 mod quote;
 mod show;
@@ -27,7 +30,7 @@ struct Subcommand {
     run: fn(Args) -> Result<(), Error>,
 }
 
-const SUBCOMMANDS: [Subcommand; 3] = [
+const SUBCOMMANDS: [Subcommand; 4] = [
     Subcommand {
         name: "encode",
         help: encode::HELP,
@@ -43,16 +46,22 @@ const SUBCOMMANDS: [Subcommand; 3] = [
         help: show::HELP,
         run: show::run,
     },
+    Subcommand {
+        name: "line",
+        help: line::HELP,
+        run: line::run,
+    },
 ];
 
 const HELP: &str = "\
 aes18: messages in the user bits of AES3 audio (AES18)
 
 Usage:
-  aes18 encode PLAN -o BITS                        make the user bits that a plan asks for
-  aes18 decode --circuits ADDR[:EXT],.. BITS       tell what is in filed user bits
-  aes18 show --circuits ADDR[:EXT],.. BITS         look at filed user bits
-  aes18 SUBCOMMAND --help                          say more of a subcommand
+  aes18 encode PLAN -o BITS                     make user bits by a plan
+  aes18 decode --circuits ADDR[:EXT],.. BITS    tell what is in filed user bits
+  aes18 show --circuits ADDR[:EXT],.. BITS      look at filed user bits
+  aes18 line BITS -o LINE                       write packets as a serial line
+  aes18 SUBCOMMAND --help                       say more of a subcommand
 
 Options:
   -h, --help       print this help
@@ -74,7 +83,7 @@ fn main() -> ExitCode {
 /// Runs the subcommand that the arguments name.
 fn run(mut arguments: Vec<OsString>) -> Result<(), Error> {
     let expected = |found: &str| {
-        Error::Usage(format!("expected encode, decode or show{found}")).see_help_of("aes18")
+        Error::Usage(format!("expected encode, decode, show or line{found}")).see_help_of("aes18")
     };
     if arguments.is_empty() {
         return Err(expected(""));

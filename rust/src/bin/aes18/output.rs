@@ -14,6 +14,12 @@ pub fn say(line: &str) {
     let _ = writeln!(io::stderr(), "{line}");
 }
 
+/// A number with what it counts: `1 block`, `2 blocks`.
+pub fn count(number: u64, what: &str) -> String {
+    let plural = if number == 1 { "" } else { "s" };
+    format!("{number} {what}{plural}")
+}
+
 /// An output that may be closed at the other end; what is written to it then is nowhere read.
 pub struct Unread<W>(pub W);
 

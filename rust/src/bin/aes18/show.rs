@@ -1,6 +1,5 @@
 //! `aes18 show`: a pass as a picture.
 
-mod extents;
 mod ink;
 mod layout;
 mod options;
@@ -12,15 +11,14 @@ mod terminal;
 mod words;
 
 use std::ffi::OsStr;
-use std::fs;
 use std::io::{self, BufWriter, Write};
 
 use crate::args::Args;
 use crate::circuits;
-use crate::draft::Draft;
+use crate::draft::{self, Draft};
 use crate::error::Error;
+use crate::extents::Pass;
 use crate::input::Input;
-use extents::Pass;
 use layout::Part;
 use options::Options;
 use svg::Svg;
@@ -94,7 +92,7 @@ fn show_in_terminal(options: &Options) -> Result<(), Error> {
 
 fn write_svg(options: &Options, file: &OsStr) -> Result<(), Error> {
     let mut input = Input::open(&options.bits)?;
-    if is_same_file(file, &options.bits) {
+    if draft::same_file(file, &options.bits) {
         return Err(Error::Usage(
             "--svg names the file of user bits".to_string(),
         ));
@@ -111,14 +109,6 @@ fn write_svg(options: &Options, file: &OsStr) -> Result<(), Error> {
     match file == "-" {
         true => Ok(()),
         false => report_svg(options, &tally, &name, length),
-    }
-}
-
-/// Whether two names are of one file that exists.
-fn is_same_file(left: &OsStr, right: &OsStr) -> bool {
-    match (fs::canonicalize(left), fs::canonicalize(right)) {
-        (Ok(left), Ok(right)) => left == right,
-        _ => false,
     }
 }
 

@@ -2,12 +2,17 @@
 
 use aes18::{Circuit, Fate, Figures, Notice, Totals};
 
+use super::format::Unit;
+
 /// Counts over all notices.
 pub struct Counts {
-    /// Bits read.
-    pub bits: u64,
+    pub unit: Unit,
+    /// Units read.
+    pub read: u64,
     pub system: u64,
-    pub spoilt: u64,
+    spoilt: u64,
+    /// What a serial line had between two flags that was no packet.
+    pub dropped: u64,
     pub malformed: u64,
     pub elsewhere: u64,
     /// What the totals do not have of each circuit, by number.
@@ -26,11 +31,13 @@ pub struct Packets {
 
 impl Counts {
     /// Nothing read yet at these circuits.
-    pub fn new(circuits: &[Circuit]) -> Counts {
+    pub fn new(unit: Unit, circuits: &[Circuit]) -> Counts {
         Counts {
-            bits: 0,
+            unit,
+            read: 0,
             system: 0,
             spoilt: 0,
+            dropped: 0,
             malformed: 0,
             elsewhere: 0,
             circuits: circuits.iter().copied().map(Packets::new).collect(),
@@ -48,6 +55,14 @@ impl Counts {
             Notice::System { .. } => self.system += 1,
             Notice::Elsewhere => self.elsewhere += 1,
             Notice::Circuit { number, fate, .. } => self.circuits[number].count(fate),
+        }
+    }
+
+    /// What damage is called, and how often it was met: user bits have spoilt frames, and of a serial line they are dropped without a notice.
+    pub fn damaged(&self) -> (&'static str, u64) {
+        match self.unit {
+            Unit::Bit => ("Spoilt", self.spoilt),
+            Unit::Byte => ("Dropped", self.dropped),
         }
     }
 

@@ -1,15 +1,33 @@
 //! The forms in which notices and counts are told.
 
+use std::fmt::{self, Display, Formatter};
 use std::io::{self, Write};
 
 use aes18::{Circuit, Fate, Notice};
 
 use super::counts::Counts;
 
+/// What places are counted in: the bits of user bits, the bytes of a serial line.
+#[derive(Clone, Copy, Debug, PartialEq, Eq)]
+pub enum Unit {
+    Bit,
+    Byte,
+}
+
+impl Display for Unit {
+    fn fmt(&self, f: &mut Formatter<'_>) -> fmt::Result {
+        f.write_str(match self {
+            Unit::Bit => "bit",
+            Unit::Byte => "byte",
+        })
+    }
+}
+
 /// A notice with what belongs to it.
 pub struct Told<'a> {
-    /// How many bits were read when it was told: the number, from 0, of the first bit behind the flag that closed the frame.
-    pub bit: u64,
+    pub unit: Unit,
+    /// How many units were read when it was told: the number, from 0, of the first one behind the flag that closed the frame.
+    pub place: u64,
     pub notice: Notice,
     /// The circuits listed.
     pub circuits: &'a [Circuit],

@@ -14,7 +14,7 @@ pub struct Json;
 
 impl Format for Json {
     fn notice(&self, out: &mut dyn Write, told: &Told<'_>) -> io::Result<()> {
-        write!(out, r#"{{"bit":{},"notice":"#, told.bit)?;
+        write!(out, r#"{{"{}":{},"notice":"#, told.unit, told.place)?;
         match told.notice {
             Notice::End => write!(out, r#""End""#)?,
             Notice::Spoilt => write!(out, r#""Spoilt""#)?,
@@ -40,10 +40,16 @@ impl Format for Json {
     }
 
     fn counts(&self, out: &mut dyn Write, counts: &Counts) -> io::Result<()> {
+        let (damaged, number) = counts.damaged();
         write!(
             out,
-            r#"{{"totals":{{"bits":{},"system":{},"spoilt":{},"malformed":{},"elsewhere":{},"circuits":["#,
-            counts.bits, counts.system, counts.spoilt, counts.malformed, counts.elsewhere
+            r#"{{"totals":{{"{}s":{},"system":{},"{}":{number},"malformed":{},"elsewhere":{},"circuits":["#,
+            counts.unit,
+            counts.read,
+            counts.system,
+            damaged.to_ascii_lowercase(),
+            counts.malformed,
+            counts.elsewhere
         )?;
         for (number, (packets, figures)) in counts.circuits().enumerate() {
             if number > 0 {

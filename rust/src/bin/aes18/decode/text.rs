@@ -13,7 +13,7 @@ pub struct Text;
 
 impl Format for Text {
     fn notice(&self, out: &mut dyn Write, told: &Told<'_>) -> io::Result<()> {
-        write!(out, "bit {}: ", told.bit)?;
+        write!(out, "{} {}: ", told.unit, told.place)?;
         match told.notice {
             Notice::End => write!(out, "End")?,
             Notice::Spoilt => write!(out, "Spoilt")?,
@@ -44,10 +44,11 @@ impl Format for Text {
         for (packets, figures) in counts.circuits() {
             writeln!(out, "{}", row(packets, figures))?;
         }
+        let (damaged, number) = counts.damaged();
         writeln!(
             out,
-            "bits read {}; System {}, Spoilt {}, Malformed {}, Elsewhere {}",
-            counts.bits, counts.system, counts.spoilt, counts.malformed, counts.elsewhere
+            "{}s read {}; System {}, {damaged} {number}, Malformed {}, Elsewhere {}",
+            counts.unit, counts.read, counts.system, counts.malformed, counts.elsewhere
         )
     }
 }

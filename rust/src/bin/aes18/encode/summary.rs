@@ -4,6 +4,7 @@ use aes18::Sender;
 
 use super::plan::Plan;
 use super::sending::Made;
+use crate::output::count;
 
 /// The lines so far, one for each block, and the sums over them.
 #[derive(Default)]
@@ -44,10 +45,4 @@ impl Summary {
         }
         self.lines
     }
-}
-
-/// A number with what it counts: `1 block`, `2 blocks`.
-fn count(number: u64, what: &str) -> String {
-    let plural = if number == 1 { "" } else { "s" };
-    format!("{number} {what}{plural}")
 }

@@ -2,7 +2,7 @@
 
 use aes18::{Fate, Notice};
 
-use super::extents::Kind;
+use crate::extents::Kind;
 
 /// What a place of the picture shows.
 #[derive(Clone, Copy, Debug, PartialEq, Eq)]

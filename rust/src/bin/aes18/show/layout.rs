@@ -1,6 +1,6 @@
 //! A pass in rows of a fixed number of bits.
 
-use super::extents::Stretch;
+use crate::extents::Stretch;
 
 /// How a pass is laid out, and which of its bits are shown.
 #[derive(Clone, Copy, Debug)]

@@ -7,11 +7,11 @@ use std::io::{self, Write};
 
 use aes18::Notice;
 
-use super::extents::{Kind, Stretch};
 use super::ink::Ink;
 use super::layout::Part;
 use super::tally::Tally;
 use super::words::Words;
+use crate::extents::{Kind, Stretch};
 use sheet::{EDGE, LEFT, ROW, TOP};
 
 /// The width of the whole picture.

@@ -2,7 +2,7 @@
 
 use aes18::{Fate, Figures, Notice, Totals};
 
-use super::extents::{Kind, Stretch};
+use crate::extents::{Kind, Stretch};
 
 /// What the totals do not have of a listed circuit, in packets.
 #[derive(Clone, Copy, Debug, Default)]

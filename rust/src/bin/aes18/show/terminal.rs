@@ -5,11 +5,11 @@ use std::mem;
 
 use aes18::Notice;
 
-use super::extents::Kind;
 use super::ink::Ink;
 use super::layout::{Layout, Part};
 use super::options::Options;
 use super::paint::Paint;
+use crate::extents::Kind;
 
 /// The columns that a row's label takes at least, and the space behind it.
 const LABEL: usize = 8;

@@ -2,8 +2,8 @@
 
 use aes18::{Circuit, Fate, Notice};
 
-use super::extents::{Kind, Stretch};
 use super::layout::Layout;
+use crate::extents::{Kind, Stretch};
 
 /// The circuits by number, and the layout, which words refer to.
 #[derive(Clone, Copy)]

@@ -6,6 +6,7 @@ use std::mem;
 use aes18::{Notice, Receiver, RECEIVER_STORE};
 
 use crate::error::Error;
+use crate::frames;
 
 /// What a stretch of bits is.
 #[derive(Clone, Copy, Debug, PartialEq, Eq)]
@@ -92,8 +93,7 @@ impl Extents {
     /// Follows the bits `from..to` of the bytes, of which the last one gave the notice, if there is one.
     fn follow(&mut self, bytes: &[u8], from: u64, to: u64, notice: Option<Notice>) {
         for bit in from..to {
-            let one = bytes[(bit / 8) as usize] >> (bit % 8) & 1 == 1;
-            match one {
+            match frames::bit(bytes, bit) {
                 true => self.one(),
                 false => self.zero(notice.filter(|_| bit + 1 == to)),
             }

@@ -1,0 +1,181 @@
+//! Frames of packets, in user bits and on the serial line. The FCS of a packet is taken from the frame that the library writes for the line.
+
+use aes18::{write_line, Refusal, LONGEST_LINE_FRAME};
+
+/// Bits of the longest body that passes: 21 bytes FF hex, stuffed.
+pub const LONGEST_BODY: u64 = 201;
+/// Bits of a flag.
+pub const FLAG_BITS: u64 = 8;
+
+const FLAG: u8 = 0x7E;
+const ESCAPE: u8 = 0x7D;
+/// What an escaped byte is exclusive-ored with.
+const ESCAPED: u8 = 0x20;
+/// Ones behind which a zero is stuffed.
+const RUN: u32 = 5;
+
+/// Bits in bytes, the first in the lowest bit; spare bits of the last byte are 0.
+#[derive(Default)]
+pub struct Bits {
+    pub bytes: Vec<u8>,
+    pub count: u64,
+}
+
+impl Bits {
+    fn push(&mut self, one: bool) {
+        let place = self.count % 8;
+        if place == 0 {
+            self.bytes.push(0);
+        }
+        if let Some(last) = self.bytes.last_mut() {
+            *last |= u8::from(one) << place;
+        }
+        self.count += 1;
+    }
+
+    fn push_byte(&mut self, byte: u8) {
+        (0..8).for_each(|place| self.push(bit(&[byte], place)));
+    }
+}
+
+/// The bit of that number in bytes.
+pub fn bit(bytes: &[u8], number: u64) -> bool {
+    bytes[(number / 8) as usize] >> (number % 8) & 1 == 1
+}
+
+/// A packet's frame on the serial line.
+pub fn on_line(packet: &[u8]) -> Result<Vec<u8>, Refusal> {
+    let mut line = vec![0; LONGEST_LINE_FRAME];
+    let length = write_line(packet, &mut line)?;
+    line.truncate(length);
+    Ok(line)
+}
+
+/// What a frame on the serial line has between its flags, without escapes: a packet and its FCS.
+pub fn unescaped(frame: &[u8]) -> Vec<u8> {
+    let mut escape = false;
+    let mut bytes = Vec::with_capacity(frame.len());
+    for byte in frame.iter().copied().filter(|byte| *byte != FLAG) {
+        match (escape, byte) {
+            (false, ESCAPE) => escape = true,
+            (false, _) => bytes.push(byte),
+            (true, _) => {
+                bytes.push(byte ^ ESCAPED);
+                escape = false;
+            }
+        }
+    }
+    bytes
+}
+
+/// A packet with its FCS behind it.
+pub fn with_fcs(packet: &[u8]) -> Result<Vec<u8>, Refusal> {
+    on_line(packet).map(|frame| unescaped(&frame))
+}
+
+/// Bytes as the body of a frame in user bits, with a flag before it and one behind it.
+pub fn in_bits(bytes: &[u8]) -> Bits {
+    let mut frame = Bits::default();
+    frame.push_byte(FLAG);
+    let mut ones = 0;
+    for number in 0..8 * bytes.len() as u64 {
+        let one = bit(bytes, number);
+        frame.push(one);
+        ones = if one { ones + 1 } else { 0 };
+        if ones == RUN {
+            frame.push(false);
+            ones = 0;
+        }
+    }
+    frame.push_byte(FLAG);
+    frame
+}
+
+/// The bytes of a body in user bits, without the zero behind each five ones; none where a zero is missing or the bits are no whole bytes.
+pub fn unstuffed(body: impl Iterator<Item = bool>) -> Option<Vec<u8>> {
+    let mut bits = Bits::default();
+    let mut ones = 0;
+    for one in body {
+        match (ones, one) {
+            (RUN, true) => return None,
+            (RUN, false) => ones = 0,
+            _ => {
+                bits.push(one);
+                ones = if one { ones + 1 } else { 0 };
+            }
+        }
+    }
+    (ones < RUN && bits.count % 8 == 0).then_some(bits.bytes)
+}
+
+#[cfg(test)]
+mod tests {
+    use super::*;
+
+    /// Bits as text.
+    fn text(bits: &Bits) -> String {
+        let digit = |number| if bit(&bits.bytes, number) { '1' } else { '0' };
+        (0..bits.count).map(digit).collect()
+    }
+
+    /// The body of the frame of these bytes.
+    fn body(bytes: &[u8]) -> String {
+        let frame = text(&in_bits(bytes));
+        let flag = "01111110";
+        let body = frame.strip_prefix(flag).and_then(|f| f.strip_suffix(flag));
+        body.unwrap().to_string()
+    }
+
+    /// Bits written as text, unstuffed.
+    fn unstuff(text: &str) -> Option<Vec<u8>> {
+        unstuffed(text.chars().map(|bit| bit == '1'))
+    }
+
+    /// The specification's own cases.
+    #[test]
+    fn stuffed_bytes() {
+        assert_eq!(body(&[]), "");
+        assert_eq!(body(&[0xFF]), "111110111");
+        assert_eq!(body(&[0xF8]), "000111110");
+        assert_eq!(body(&[0x7E]), "011111010");
+        assert_eq!(body(&[0xFF; 21]).len() as u64, LONGEST_BODY);
+        assert_eq!(in_bits(&[0x00]).bytes, [0x7E, 0x00, 0x7E]);
+    }
+
+    #[test]
+    fn stuffing_is_undone() {
+        for first in 0..=255 {
+            for second in [0x00, 0x1F, 0x55, 0x7D, 0x7E, 0xF8, 0xFF] {
+                let bytes = [first, second, first];
+                assert_eq!(unstuff(&body(&bytes)), Some(bytes.to_vec()));
+            }
+        }
+    }
+
+    #[test]
+    fn bits_that_are_no_bytes() {
+        for text in ["1", "0000000", "000000000", "1111101111"] {
+            assert_eq!(unstuff(text), None, "{text}");
+        }
+        for text in ["00011111", "000111111", "11111110"] {
+            assert_eq!(unstuff(text), None, "{text}: a zero is missing");
+        }
+    }
+
+    #[test]
+    fn escapes_are_undone() {
+        let packet = [0x7E, 0x7D, 0x5E, 0x5D, 0x20, 0x7D, 0x7E];
+        let frame = on_line(&packet).unwrap();
+        assert_eq!(frame[..5], [0x7E, 0x7D, 0x5E, 0x7D, 0x5D]);
+        let bytes = with_fcs(&packet).unwrap();
+        assert_eq!((&bytes[..7], bytes.len()), (&packet[..], 9));
+        assert_eq!(with_fcs(&[0x01]), Err(Refusal::PacketLength));
+    }
+
+    /// The published FCS of the nine digits, 906E hex, low byte first.
+    #[test]
+    fn a_published_fcs() {
+        let bytes = with_fcs(b"123456789").unwrap();
+        assert_eq!(bytes, b"123456789\x6E\x90");
+    }
+}
