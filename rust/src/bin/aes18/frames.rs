@@ -7,7 +7,8 @@ pub const LONGEST_BODY: u64 = 201;
 /// Bits of a flag.
 pub const FLAG_BITS: u64 = 8;
 
-const FLAG: u8 = 0x7E;
+/// A flag, as a byte of the line and as eight user bits.
+pub const FLAG: u8 = 0x7E;
 const ESCAPE: u8 = 0x7D;
 /// What an escaped byte is exclusive-ored with.
 const ESCAPED: u8 = 0x20;

@@ -2,7 +2,7 @@
 
 use aes18::{LineRead, LineReader};
 
-const FLAG: u8 = 0x7E;
+use crate::frames::FLAG;
 
 /// The library's reader, and what it dropped.
 #[derive(Default)]
@@ -12,6 +12,7 @@ pub struct Line {
     inside: bool,
     /// Whether a byte other than a flag was read since.
     filled: bool,
+    /// How often bytes stood between two flags, and how many of them were packets.
     closed: u64,
     packets: u64,
 }
