@@ -253,6 +253,72 @@ impl Both {
         }
         Ok(number)
     }
+
+    pub fn line_write(
+        &mut self,
+        packet: &[u8],
+        line: &mut [u8],
+        answer: &mut [u8],
+    ) -> Compared<u32> {
+        let (mut line_copy, mut answer_copy) = (Guarded::of(line), Guarded::of(answer));
+        let library = self
+            .library
+            .line_write(packet, line_copy.lent(), answer_copy.lent());
+        let reference = calls::line_write(packet, line, answer);
+        let number = self.compare(Call {
+            function: Function::LineWrite,
+            given: &|| format!("packet {}, line {} bytes", hex(packet), line.len()),
+            library,
+            reference,
+            left: &[
+                ("the answer's bytes", &answer_copy, answer),
+                ("the line", &line_copy, line),
+            ],
+        })?;
+        self.tally.lines.written(number, packet, line.len());
+        Ok(number)
+    }
+
+    pub fn line_read(
+        &mut self,
+        record: &mut [u8],
+        line: &[u8],
+        packet: &mut [u8],
+        answer: &mut [u8],
+    ) -> Compared<u32> {
+        let before = record.to_vec();
+        let (mut copy, mut packet_copy, mut answer_copy) = (
+            Guarded::of(record),
+            Guarded::of(packet),
+            Guarded::of(answer),
+        );
+        let library =
+            self.library
+                .line_read(copy.lent(), line, packet_copy.lent(), answer_copy.lent());
+        let reference = calls::line_read(record, line, packet, answer);
+        let number = self.compare(Call {
+            function: Function::LineRead,
+            given: &|| format!("record {}, line {}", hex(&before), hex(line)),
+            library,
+            reference,
+            left: &[
+                ("the record", &copy, record),
+                ("the answer's bytes", &answer_copy, answer),
+                ("the packet", &packet_copy, packet),
+            ],
+        })?;
+        if number == 0 {
+            let bytes = &line[..line_bytes(answer)];
+            self.tally.lines.read(&before, bytes, record);
+        }
+        Ok(number)
+    }
+}
+
+/// How many bytes of a line the answer says were read.
+pub fn line_bytes(answer: &[u8]) -> usize {
+    let high_first = answer[8..16].iter().rev();
+    high_first.fold(0, |number, &byte| number << 8 | usize::from(byte))
 }
 
 /// What a call was given, for the message about a difference.

@@ -2,6 +2,7 @@
 //! bits and sums from the listing on; what its record would be, and what it answers, is compared after each call.
 
 use crate::both::{differ, shown, Both, Compared};
+use crate::inputs::spare;
 use crate::random::Random;
 use aes18_reference::bits::bytes_of;
 use aes18_reference::calls::{block_answer, number, read_answer};
@@ -247,10 +248,4 @@ impl Reading {
         self.read(both, ReadCall { bits, from, to })?;
         Ok(())
     }
-}
-
-/// Random bytes, `length` of them or a few more.
-fn spare(random: &mut Random, length: usize) -> Vec<u8> {
-    let more = random.pick(&[0, 0, 1, 16]);
-    random.bytes(length + more)
 }

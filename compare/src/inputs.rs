@@ -151,6 +151,12 @@ pub fn any_length(random: &mut Random, bytes: &[u8]) -> Vec<u8> {
     bytes
 }
 
+/// Random bytes, `length` of them or a few more.
+pub fn spare(random: &mut Random, length: usize) -> Vec<u8> {
+    let more = random.pick(&[0, 0, 1, 16]);
+    random.bytes(length + more)
+}
+
 /// Each place of this many bytes, with each value.
 pub fn every_byte(length: usize) -> impl Iterator<Item = (usize, u8)> {
     (0..length).flat_map(|at| (0..=255).map(move |value| (at, value)))

@@ -144,4 +144,42 @@ impl Library {
             )
         }
     }
+
+    pub fn line_write(&mut self, packet: &[u8], line: &mut [u8], answer: &mut [u8]) -> u32 {
+        self.nulls = !self.nulls;
+        // SAFETY: as in `sender_list`.
+        unsafe {
+            ffi::aes18_line_write(
+                self.read(packet),
+                packet.len(),
+                self.write(line),
+                line.len(),
+                self.write(answer),
+                answer.len(),
+            )
+        }
+    }
+
+    pub fn line_read(
+        &mut self,
+        record: &mut [u8],
+        line: &[u8],
+        packet: &mut [u8],
+        answer: &mut [u8],
+    ) -> u32 {
+        self.nulls = !self.nulls;
+        // SAFETY: as in `sender_list`.
+        unsafe {
+            ffi::aes18_line_read(
+                self.write(record),
+                record.len(),
+                self.read(line),
+                line.len(),
+                self.write(packet),
+                packet.len(),
+                self.write(answer),
+                answer.len(),
+            )
+        }
+    }
 }

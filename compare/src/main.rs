@@ -19,7 +19,7 @@ use random::Random;
 use std::env;
 use std::process::ExitCode;
 use std::time::{Duration, Instant, SystemTime, UNIX_EPOCH};
-use trials::{cuts, lengths, listing, packets, passes, reading, records, sending, totals};
+use trials::{cuts, lengths, lines, listing, packets, passes, reading, records, sending, totals};
 
 /// A trial under its name, and how often it is made in a lap.
 type Trial = (
@@ -28,7 +28,7 @@ type Trial = (
     fn(&mut Both, &mut Random) -> Compared<()>,
 );
 
-const TRIALS: [Trial; 15] = [
+const TRIALS: [Trial; 20] = [
     ("listing", 10, listing::any),
     ("sending", 20, sending::run),
     ("reading", 10, reading::run),
@@ -52,6 +52,11 @@ const TRIALS: [Trial; 15] = [
     ("any totals", 60, totals::any),
     ("a list of notices near the most", 20, totals::near_the_most),
     ("passes", 150, passes::pass),
+    ("writing to a line", 10, lines::writing),
+    ("packets written and read back", 30, lines::read_back),
+    ("any line", 60, lines::any_line),
+    ("any line behind any record", 60, lines::any_record),
+    ("a line cut at every place", 2, lines::every_place),
 ];
 /// Laps of the gate.
 const LAPS: u64 = 16;
@@ -83,6 +88,7 @@ fn gate() -> Result<(), String> {
     listing::all(&mut both).map_err(|difference| show(0, "every circuit", 0, &difference))?;
     packets::all(&mut both).map_err(|difference| show(0, "every packet", 0, &difference))?;
     totals::all(&mut both).map_err(|difference| show(0, "every answer", 0, &difference))?;
+    lines::all(&mut both).map_err(|difference| show(0, "every byte of a line", 0, &difference))?;
     lengths::all(&mut both, &mut Random::new(0))
         .map_err(|difference| show(0, "every length", 0, &difference))?;
     for seed in 1..=LAPS {

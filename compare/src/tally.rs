@@ -1,8 +1,11 @@
 //! What was seen: how many calls of each function, how often each answer, notice and fate.
 
+mod lines;
+
 use aes18_reference::calls::answered_notice;
 use aes18_reference::receiver::{Fate, Notice};
 use aes18_reference::totals::{Figures, Totals, MOST};
+use lines::Lines;
 use std::collections::BTreeMap;
 use std::fmt;
 
@@ -14,16 +17,20 @@ pub enum Function {
     ReceiverList,
     ReceiverRead,
     TotalsNote,
+    LineWrite,
+    LineRead,
 }
 
 /// Each function with the numbers it can answer.
-const ANSWERS: [(Function, &[u32]); 6] = [
+const ANSWERS: [(Function, &[u32]); 8] = [
     (Function::SenderList, &[0, 1, 2, 3, 4, 255]),
     (Function::SenderOffer, &[0, 5, 6, 7, 8, 9, 10, 14, 255]),
     (Function::SenderBlock, &[0, 5, 11, 12, 13, 14, 255]),
     (Function::ReceiverList, &[0, 1, 2, 3, 4, 255]),
     (Function::ReceiverRead, &[0, 5, 14, 15, 255]),
     (Function::TotalsNote, &[0, 255]),
+    (Function::LineWrite, &[0, 16, 17, 255]),
+    (Function::LineRead, &[0, 255]),
 ];
 const NOTICES: [&str; 6] = [
     "End",
@@ -203,6 +210,7 @@ pub struct Tally {
     fates: [u64; 6],
     pub cuts: Cuts,
     pub noted: Noted,
+    pub lines: Lines,
     pub claim: Claim,
 }
 
@@ -242,6 +250,7 @@ impl Tally {
             .chain(notices)
             .chain(self.cuts.missing())
             .chain(self.noted.missing())
+            .chain(self.lines.missing())
             .chain(few)
             .collect()
     }
@@ -281,6 +290,7 @@ impl fmt::Display for Tally {
         writeln!(out, "fates: {}", line(&FATES, &self.fates))?;
         writeln!(out, "{}", self.cuts)?;
         writeln!(out, "{}", self.noted)?;
+        writeln!(out, "{}", self.lines)?;
         write!(out, "{}", self.claim)
     }
 }

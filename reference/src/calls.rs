@@ -1,6 +1,7 @@
-//! The functions of the C interface: each is given a record as bytes and answers 0, or the number of 01's refusal, or 255 where record or
-//! answer is too short. An end is built from the bytes, makes the call, and writes the bytes back.
+//! The functions of the C interface: a record is given as bytes, and the answer is 0, or the number of a refusal, or 255 where a record, an
+//! answer or the place for a packet is too short. An end is built from the bytes, makes the call, and writes the bytes back.
 
+use crate::line::{self, LINE_RECORD, LONGEST_PACKET};
 use crate::packet::System;
 use crate::receiver::{Fate, Notice, Read, Receiver};
 use crate::records::{NO_RECEIVER, NO_SENDER, RECEIVER_RECORD, SENDER_RECORD};
@@ -11,7 +12,11 @@ use crate::totals::{Totals, TOTALS_RECORD};
 pub const BLOCK_ANSWER: usize = 8;
 /// Bytes of the answer of reading.
 pub const READ_ANSWER: usize = 16;
-/// Answered where record or answer is too short.
+/// Bytes of the answer of writing to a line.
+pub const LINE_WRITE_ANSWER: usize = 8;
+/// Bytes of the answer of reading from a line.
+pub const LINE_READ_ANSWER: usize = 16;
+/// Answered where a record, an answer or the place for a packet is too short.
 pub const TOO_SHORT: u32 = 255;
 
 /// The interface's number of a result.
@@ -217,5 +222,31 @@ pub fn totals_note(totals: &mut [u8], answer: &[u8]) -> u32 {
     let noted: Vec<Notice> = answered_notice(answer).into_iter().collect();
     sums.add(&noted);
     record.copy_from_slice(&sums.record());
+    0
+}
+
+/// The answer is how many bytes were written.
+pub fn line_write(packet: &[u8], line: &mut [u8], answer: &mut [u8]) -> u32 {
+    if answer.len() < LINE_WRITE_ANSWER {
+        return TOO_SHORT;
+    }
+    let written = line::write(packet, line);
+    if let Ok(bytes) = written {
+        answer[..LINE_WRITE_ANSWER].copy_from_slice(&(bytes as u64).to_le_bytes());
+    }
+    number(&written)
+}
+
+/// The answer is the length of the packet, 0 for none, and how many bytes were read.
+pub fn line_read(record: &mut [u8], line: &[u8], packet: &mut [u8], answer: &mut [u8]) -> u32 {
+    let room = packet.len() >= LONGEST_PACKET && answer.len() >= LINE_READ_ANSWER;
+    let Some(record) = record.first_chunk_mut::<LINE_RECORD>().filter(|_| room) else {
+        return TOO_SHORT;
+    };
+    let read = line::read(record, line);
+    let found = read.packet.unwrap_or_default();
+    packet[..found.len()].copy_from_slice(&found);
+    answer[..8].copy_from_slice(&(found.len() as u64).to_le_bytes());
+    answer[8..LINE_READ_ANSWER].copy_from_slice(&(read.bytes as u64).to_le_bytes());
     0
 }

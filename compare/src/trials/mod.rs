@@ -2,6 +2,7 @@
 
 pub mod cuts;
 pub mod lengths;
+pub mod lines;
 pub mod listing;
 pub mod packets;
 pub mod passes;
