@@ -10,3 +10,4 @@ pub mod ReceiverCarried
 pub mod ReceiverLists
 pub mod NoteCarried
 pub mod TotalsCarried
+pub mod LinesCarried

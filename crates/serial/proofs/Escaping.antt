@@ -1,20 +1,18 @@
 -- Laws of escaped bytes: which are escaped, how many bytes they take, and what a writer leaves piece by piece.
 use Prim.Native.Nat.{ℕ, suc, _+_, _-_, _*_, _/_, _%_, _≤_, _<_}
 use mathlib.Core.Bool.{Bool, true, false, cond, _||_}
-use mathlib.Core.List.{List, [], _∷_, _++_, map, flatten, append-assoc, append-nil}
+use mathlib.Core.List.{List, [], _∷_, _++_, flatten, append-assoc, append-nil}
 use mathlib.Core.Path.{_≡_, refl, sym, ap, _∙_}
-use native.Mathlib.Nat.{add-suc, suc-add}
 use native.Mathlib.Numerals.{add-one}
 use native.Mathlib.Omega.{arith}
 use borrow.Author.Tests.{eqb-true}
-use lib.ListN.{length, drop, getD, set, length-append, length-set}
-use lib.Seq.{sets, drop-cons, length-sets}
+use lib.ListN.{length, drop, getD, set, length-append}
+use lib.Seq.{sets, drop-cons}
 use lib.Dec.{eqb}
 use Rattle.bits.proofs.Lists.{sets-append}
 use Rattle.fcs.specs.Fcs.{fcsOf, lowFirst}
 use Rattle.hdlc.specs.Frames.{withFcs}
 use Rattle.serial.specs.Octets.{flag, escape, isFlag, isEscape, toggled, escaped, escapedBytes, lineFrame}
-use Rattle.serial.specs.Writing.{worstCase}
 
 -- ---- one byte
 
@@ -34,6 +32,10 @@ length-escaped b = go (isFlag b || isEscape b)
     go : (t : Bool) → length (cond t (escape ∷ toggled b ∷ []) (b ∷ [])) ≤ 2
     go true = omega arith
     go false = omega arith
+
+-- the place behind a byte
+pub place-below : (b at behind : ℕ) → behind ≡ at + length (escaped b) → behind ≤ at + 2
+place-below b at behind e = omega (arith, e, length-escaped b)
 
 -- what holds of a flag, of an escape, and of any other byte holds of all
 pub byte-cases : (P : ℕ → Type 0) (b : ℕ) → P flag → P escape → (isFlag b ≡ false → isEscape b ≡ false → P b) → P b

@@ -1,7 +1,7 @@
 -- The machine against the declaration: over any bytes, from any record, it gives what stands in the line that the record stands for with these bytes
 -- behind it.
-use Prim.Native.Nat.{ℕ, suc, _+_, _-_, _≤_, _<_}
-use mathlib.Core.Bool.{Bool, true, false, cond, _&&_, _||_}
+use Prim.Native.Nat.{ℕ, _+_, _-_, _≤_, _<_}
+use mathlib.Core.Bool.{Bool, true, false, cond, _&&_}
 use mathlib.Core.List.{List, [], _∷_, _++_, flatten, append-assoc, append-nil}
 use mathlib.Core.Option.{Option, none, some}
 use mathlib.Core.Path.{_≡_, refl, sym, ap, _∙_}
@@ -14,7 +14,7 @@ use lib.Dec.{leb, ltb}
 use Rattle.hdlc.specs.Bodies.{packet}
 use Rattle.serial.specs.declared.Line.{Line}
 use Rattle.serial.specs.Octets.{flag, escape, isFlag, isEscape, toggled, escapedBytes}
-use Rattle.serial.specs.Frames.{hasFlag, pieces, butLast, between, ontoBytes, unescapedFrom, unescaped, passing, given, packetsIn}
+use Rattle.serial.specs.Frames.{hasFlag, pieces, butLast, between, ontoBytes, unescapedFrom, unescaped, given, packetsIn}
 use Rattle.serial.specs.Machine.{opened, keep, taken, step, passes}
 use Rattle.serial.specs.SerialLine.{standsFor}
 use Rattle.serial.proofs.Stepping.{taken-behind, taken-escape, taken-plain, step-flag, step-inside, step-outside, passes-outside, passes-escape, passes-long, passes-held, passing-long}
@@ -233,7 +233,7 @@ taken-long : (l : Line) (b : ℕ) → length (l .bytes) ≡ 21 → length (taken
 taken-long l b h =
     taken-cases (λ r. length (r .bytes) ≡ 21) l b (λ x. keep-cases (λ r. length (r .bytes) ≡ 21) l x (rw length-set h) (rw length-replicate)) h
 
-step-long : (l : Line) (b : ℕ) → length (l .bytes) ≡ 21 → length (step l b .bytes) ≡ 21
+pub step-long : (l : Line) (b : ℕ) → length (l .bytes) ≡ 21 → length (step l b .bytes) ≡ 21
 unfolding step opened
 step-long l b h = go (isFlag b) (l .inside)
   where

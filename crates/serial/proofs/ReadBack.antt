@@ -1,24 +1,23 @@
 -- What is written is read back: packets, and the packets of writing calls.
-use Prim.Native.Nat.{ℕ, _+_, _*_, _≤_}
+use Prim.Native.Nat.{ℕ, _+_, _≤_}
 use mathlib.Core.Bool.{Bool, true, false, cond, _&&_, true≢false}
 use mathlib.Core.List.{List, [], _∷_, _++_, map, flatten, append-assoc}
-use mathlib.Core.Option.{some}
 use mathlib.Core.Path.{_≡_, refl, sym, ap, _∙_}
 use native.Mathlib.Omega.{arith}
-use borrow.Author.Tests.{leb-true}
 use lib.ListN.{length, take, drop, length-append}
 use lib.Seq.{sets, take-append-seam}
-use lib.Dec.{leb, eqb}
+use lib.Dec.{eqb}
 use Rattle.bits.proofs.Lists.{sets-behind}
 use Rattle.hdlc.specs.Frames.{withFcs}
 use Rattle.hdlc.specs.Bodies.{packet}
 use Rattle.hdlc.proofs.WithFcs.{length-withFcs, packet-withFcs, fcsRight-withFcs}
 use Rattle.serial.specs.declared.Written.the-variants.{Frame, Refused}
 use Rattle.serial.specs.Octets.{flag, escapedBytes, lineFrame, lineOf, fits}
-use Rattle.serial.specs.Writing.{worstCase, writeRefusal, writeAnswer, outputAfter, WriteCall, bytesOf, sent, packetsSent}
+use Rattle.serial.specs.Writing.{worstCase, writeAnswer, outputAfter, WriteCall, bytesOf, sent, packetsSent}
 use Rattle.serial.specs.Frames.{hasFlag, pieces, butLast, between, unescapedFrom, unescaped, passing, given, packetsIn}
 use Rattle.serial.specs.SerialLine.{allFit}
 use Rattle.serial.proofs.Escaping.{length-escapedBytes}
+use Rattle.serial.proofs.Writes.{write-cases}
 use Rattle.serial.proofs.Stepping.{passing-short}
 use Rattle.serial.proofs.Pieces.{packetsIn-resync, packetsIn-open, packetsIn-frame}
 use Rattle.serial.proofs.Unescaping.{hasFlag-escapedBytes, unescaped-escapedBytes}
@@ -77,18 +76,8 @@ unfolding lineFrame worstCase
 length-lineFrame p =
     rw length-append (omega (arith, length-withFcs p, length-escapedBytes (withFcs p)))
 
--- a call that is not refused
+-- the bytes that a call wrote
 module _ (p output : List ℕ) where
-  write-cases : (P : ℕ → Type 0) → (fits p ≡ true → worstCase p ≤ length output → P 0) → P 16 → P 17 → P (writeRefusal p output)
-  unfolding writeRefusal
-  write-cases P fine short outside = go (fits p) refl (leb (worstCase p) (length output)) refl
-    where
-      go : (s : Bool) → fits p ≡ s → (t : Bool) → leb (worstCase p) (length output) ≡ t → P (cond s (cond t 0 16) 17)
-      go true f true h = fine f (leb-true (worstCase p) (length output) h)
-      go true f false h = short
-      go false f t h = outside
-
-  -- what it wrote
   bytes-written : worstCase p ≤ length output → take (length (lineFrame p)) (sets output 0 (lineFrame p)) ≡ lineFrame p
   bytes-written h =
       let room : length (lineFrame p) ≤ length output = omega (arith, length-lineFrame p) in

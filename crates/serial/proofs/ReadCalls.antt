@@ -1,14 +1,13 @@
 -- Reading calls against the machine: what they give, in the bytes that they read; and a caller's loop reads every byte, however a line is cut.
-use Prim.Native.Nat.{ℕ, zero, suc, _+_, _-_, _≤_, _<_, min}
+use Prim.Native.Nat.{ℕ, zero, suc, _+_, _-_, _≤_, _<_}
 use mathlib.Core.Bool.{Bool, true, false, cond, _&&_}
-use mathlib.Core.List.{List, [], _∷_, _++_, flatten, append-assoc, append-nil}
+use mathlib.Core.List.{List, [], _∷_, _++_, flatten, append-assoc}
 use mathlib.Core.Path.{_≡_, refl, sym, ap, _∙_}
 use native.Mathlib.Nat.{add-zero, add-suc, suc-add, zero-add}
 use native.Mathlib.Omega.{arith}
 use borrow.Author.Tests.{ne-eqb}
-use lib.ListN.{length, take, drop, length-take, take-append-drop, length-drop}
+use lib.ListN.{length, take, drop, length-take, take-append-drop, length-drop, length-replicate}
 use lib.Seq.{take-take}
-use lib.Dec.{eqb}
 use Rattle.serial.specs.declared.Line.{Line}
 use Rattle.serial.specs.declared.Reading.{Reading}
 use Rattle.serial.specs.Octets.{isFlag}
@@ -16,7 +15,7 @@ use Rattle.serial.specs.Frames.{packetsIn}
 use Rattle.serial.specs.Machine.{fresh, opened, step, passes, ended, stopped, readOn, reading, packetOf, packetsRead, bytesRead, lineAfter}
 use Rattle.serial.specs.SerialLine.{callsFor, callsOver, standsFor}
 use Rattle.serial.proofs.Stepping.{step-flag, passes-least}
-use Rattle.serial.proofs.Giving.{gives, givenIn, run, given-declared}
+use Rattle.serial.proofs.Giving.{gives, givenIn, run, step-long, given-declared}
 
 -- ---- bytes in two parts
 
@@ -100,6 +99,22 @@ reads l n (b ∷ bs) = go (isFlag b) refl (passes l) refl (reads (step l b) (suc
     go true f false h w = reads-on l n b bs _ (rw (f, h)) w
     go false f t h w = reads-on l n b bs _ (rw f) w
 
+-- record and frame keep their lengths
+read-long : (l : Line) (n : ℕ) (bs : List ℕ) → length (l .bytes) ≡ 21 → (length (readOn l n bs .line .bytes) ≡ 21) × (length (readOn l n bs .frame) ≡ 21)
+unfolding readOn ended stopped opened
+read-long l n [] long = (long, rw length-replicate)
+read-long l n (b ∷ bs) long = go (isFlag b && passes l) (read-long (step l b) (suc n) bs (step-long l b long))
+  where
+    go : (t : Bool) → (length (readOn (step l b) (suc n) bs .line .bytes) ≡ 21) × (length (readOn (step l b) (suc n) bs .frame) ≡ 21)
+        → (length (cond {A = Reading} t (stopped l (suc n)) (readOn (step l b) (suc n) bs) .line .bytes) ≡ 21)
+        × (length (cond {A = Reading} t (stopped l (suc n)) (readOn (step l b) (suc n) bs) .frame) ≡ 21)
+    go true later = (rw length-replicate, long)
+    go false later = later
+
+pub reading-long : (l : Line) (bs : List ℕ) → length (l .bytes) ≡ 21 → (length (reading l bs .line .bytes) ≡ 21) × (length (reading l bs .frame) ≡ 21)
+unfolding reading
+reading-long l bs long = read-long l 0 bs long
+
 -- ---- what one call promises
 
 module _ (l : Line) (bs : List ℕ) where
@@ -110,7 +125,7 @@ module _ (l : Line) (bs : List ℕ) where
   read-k : reading l bs .read ≡ of-call .k
   read-k = of-call .read ∙ zero-add (of-call .k)
 
-  read-within : reading l bs .read ≤ length bs
+  pub read-within : reading l bs .read ≤ length bs
   read-within = rw read-k (of-call .within)
 
   line-read : reading l bs .line ≡ run l (take (reading l bs .read) bs)

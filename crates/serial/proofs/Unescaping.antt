@@ -6,9 +6,9 @@ use mathlib.Core.Option.{Option, none, some, Option·none-ne-some}
 use mathlib.Core.Path.{_≡_, refl, sym, ap, _∙_}
 use borrow.Author.Tests.{eqb-true}
 use mathlib.Core.Logic.{_⊎_, inl, inr}
-use Rattle.serial.specs.Octets.{flag, escape, isFlag, isEscape, toggled, escaped, escapedBytes}
+use Rattle.serial.specs.Octets.{escape, isFlag, isEscape, toggled, escaped, escapedBytes}
 use Rattle.serial.specs.Frames.{hasFlag, ontoBytes, unescapedFrom, unescaped}
-use Rattle.serial.proofs.Escaping.{byte-cases, escaped-one, escapedBytes-cons}
+use Rattle.serial.proofs.Escaping.{byte-cases, escaped-one}
 
 -- ---- flags
 

@@ -1,14 +1,13 @@
 -- What a writing call answers, case by case, and what it leaves in the output.
 use Prim.Native.Nat.{ℕ, _+_, _*_, _≤_, _<_}
-use mathlib.Core.Bool.{Bool, true, false, _&&_}
+use mathlib.Core.Bool.{Bool, true, false, cond}
 use mathlib.Core.List.{List}
-use mathlib.Core.Path.{_≡_, refl, _∙_}
+use mathlib.Core.Path.{_≡_, refl}
 use native.Mathlib.Omega.{arith}
-use borrow.Author.Tests.{le-leb, lt-leb}
+use borrow.Author.Tests.{le-leb, lt-leb, leb-true}
 use lib.ListN.{length}
 use lib.Seq.{sets}
 use lib.Dec.{leb}
-use Rattle.serial.specs.declared.Written.{Written}
 use Rattle.serial.specs.declared.Written.the-variants.{Frame, Refused}
 use Rattle.serial.specs.Octets.{fits, lineFrame}
 use Rattle.serial.specs.Writing.{worstCase, writeRefusal, writeAnswer, outputAfter}
@@ -43,3 +42,13 @@ module _ (p output : List ℕ) where
     accepted n new h k e =
         let long = le-leb (2 * (length p + 2) + 2) (length output) h in
         (rw (fits-in p lo hi, long, k), rw (fits-in p lo hi, long, e))
+
+  -- what holds of each number holds of the refusal
+  pub write-cases : (P : ℕ → Type 0) → (fits p ≡ true → worstCase p ≤ length output → P 0) → P 16 → P 17 → P (writeRefusal p output)
+  unfolding writeRefusal
+  write-cases P fine short outside = go (fits p) refl (leb (worstCase p) (length output)) refl
+    where
+      go : (s : Bool) → fits p ≡ s → (t : Bool) → leb (worstCase p) (length output) ≡ t → P (cond s (cond t 0 16) 17)
+      go true f true h = fine f (leb-true (worstCase p) (length output) h)
+      go true f false h = short
+      go false f t h = outside

@@ -1,6 +1,6 @@
--- The reader's machine: what is kept between two bytes of a line, so that it may be cut at any byte. `inside` says that a flag is read, `escape` that the
--- last byte is an escape, `count` how many bytes stand behind the last flag, escapes taken away, or is 22 for more than 21; `bytes` holds these, and is 0 where
--- there is none. Every value of the record is taken: a count above 21 is read as 22.
+-- The reader's machine: what is kept between two bytes of a line, so that it may be cut at any byte. `inside` says that a flag is read, `escape` that an escape
+-- is read behind it and the byte that it escapes is not, `count` how many bytes stand behind the last flag, escapes taken away, or is 22 for more than 21;
+-- `bytes` holds these, and is 0 where there is none. Every other value of the record is taken too: any count above 21 says that there are more.
 use Prim.Native.Nat.{ℕ, suc, _+_, _-_}
 use mathlib.Core.Bool.{Bool, true, false, cond, not, _&&_}
 use mathlib.Core.List.{List, [], _∷_, _++_}
@@ -36,7 +36,7 @@ taken l b =
 unfoldable pub step : Line → ℕ → Line
 step l b = cond (isFlag b) opened (cond (l .inside) (taken l b) l)
 
--- a flag now gives the packet held
+-- a flag now ends a frame that is not dropped
 unfoldable pub passes : Line → Bool
 passes l = l .inside && not (l .escape) && leb (l .count) 21 && passing (take (l .count) (l .bytes))
 

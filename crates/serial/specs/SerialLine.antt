@@ -15,6 +15,7 @@ use Rattle.serial.specs.Writing.{worstCase, WriteCall, sent, packetsSent
 use Rattle.serial.specs.Frames.{hasFlag, unescaped, packetsIn}
 use Rattle.serial.specs.Machine.{fresh, reading, packetOf, packetsRead, bytesRead, lineAfter}
 
+-- each is a packet of 2 to 19 bytes
 unfoldable pub allFit : List (List ℕ) → Bool
 allFit [] = true
 allFit (p ∷ ps) = fits p && allFit ps
@@ -42,7 +43,7 @@ standsFor l =
 
 -- ---- the worst case
 
--- a packet whose bytes and FCS bytes are all escaped
+-- a packet of 19 bytes that are all escaped, and so are those of its FCS, 7E7E hex
 unfoldable pub worstPacket : List ℕ
 worstPacket =
     0x7d ∷ 0x7d ∷ 0x7d ∷ 0x7d ∷ 0x7d ∷ 0x7d ∷ 0x7e ∷ 0x7d ∷ 0x7d ∷ 0x7e ∷ 0x7d ∷ 0x7d ∷ 0x7e ∷ 0x7e ∷ 0x7e ∷ 0x7d ∷ 0x7e ∷ 0x7e ∷ 0x7d ∷ []

@@ -19,10 +19,10 @@ returns-2 : tie.Need-returns-2
 returns-2 c = rw (passes-escape (c .before .before .before .args .self) (c .if2 .taken))
 
 returns-3 : tie.Need-returns-3
-returns-3 c = rw (passes-short (c .before .before .before .before .before .args .self) (c .if3 .taken))
+returns-3 c = rw (passes-short (c .before .before .before .before .before .args .self) (omega (arith, c .if3 .taken)))
 
 returns-4 : tie.Need-returns-4
-returns-4 c = rw (passes-long (c .before .before .before .before .before .before .before .args .self) (c .if4 .taken))
+returns-4 c = rw (passes-long (c .before .before .before .before .before .before .before .args .self) (omega (arith, c .if4 .taken)))
 
 cast-n : tie.Need-cast-n
 cast-n c = search needs

@@ -6,17 +6,17 @@ use borrow.Author.Needs.{needs}
 use lib.ListN.{length, length-set}
 use lib.Seq.{sets, length-sets}
 use Rattle.serial.specs.Octets.{escaped}
-use Rattle.serial.proofs.Escaping.{length-escaped, length-escapedBytes, length-written, frame-written}
+use Rattle.serial.proofs.Escaping.{place-below, length-escapedBytes, length-written, frame-written}
 use Rattle.serial.proofs.Writes.{packet-few, packet-many, output-short, accepted}
 use Rattle.serial.proofs.writing.write.Statement.{statement}
 use Rattle.serial.proofs.writing.write.Tie as tie
 
 returns : tie.Need-returns
-returns c = packet-few (c .before .before .before .args .packet .now) (c .before .before .before .args .output .now) (c .if1 .taken)
+returns c = packet-few (c .before .before .before .args .packet .now) (c .before .before .before .args .output .now) (omega (arith, c .if1 .taken))
 
 returns-2 : tie.Need-returns-2
 returns-2 c =
-    packet-many (c .before .before .before .before .args .packet .now) (c .before .before .before .before .args .output .now) (c .if2 .taken)
+    packet-many (c .before .before .before .before .args .packet .now) (c .before .before .before .before .args .output .now) (omega (arith, c .if2 .taken))
 
 add-if3 : tie.Need-add-if3
 add-if3 c = search needs
@@ -30,7 +30,7 @@ add-if3-2 c = search needs
 returns-3 : tie.Need-returns-3
 returns-3 c =
     let a = c .before .before .before .before .before .args in
-    output-short (a .packet .now) (a .output .now) (c .before .before .if1 .left) (c .before .if2 .left) (c .if3 .taken)
+    output-short (a .packet .now) (a .output .now) (c .before .before .if1 .left) (c .before .if2 .left) (omega (arith, c .if3 .taken))
 
 fcs-requires : tie.Need-fcs-requires
 fcs-requires c κs = search needs
@@ -59,10 +59,10 @@ low-below : (c : tie.After-put-bytes) → c .put-bytes .result ≤ 1 + 2 * lengt
 low-below c = omega (arith, c .put-bytes .ensures .0, length-escapedBytes (c .before .before .before .before .before .before .before .before .args .packet .now))
 
 high-below : (c : tie.After-put-byte) → c .put-byte .result ≤ 3 + 2 * length (c .before .before .before .before .before .before .before .before .before .before .before .before .args .packet .now)
-high-below c = omega (arith, c .put-byte .ensures .0, low-below (c .before .before .before .before), length-escaped (c .before .before .before .before .before .before .fcs .result % 256))
+high-below c = omega (arith, place-below _ _ _ (c .put-byte .ensures .0), low-below (c .before .before .before .before))
 
 end-below : (c : tie.After-put-byte2) → c .put-byte2 .result ≤ 5 + 2 * length (c .before .before .before .before .before .before .before .before .before .before .before .before .before .before .before .before .args .packet .now)
-end-below c = omega (arith, c .put-byte2 .ensures .0, high-below (c .before .before .before .before), length-escaped (c .before .before .before .before .before .before .before .before .before .before .fcs .result / 256))
+end-below c = omega (arith, place-below _ _ _ (c .put-byte2 .ensures .0), high-below (c .before .before .before .before))
 
 put-byte-requires : tie.Need-put-byte-requires
 put-byte-requires c κs = omega (arith, length-two (c .before .before .before), low-below (c .before .before .before))
