@@ -172,8 +172,8 @@ extern "C" {
  *   1        1 if an escape is read and what it escapes is not, else 0
  *   2        how many unescaped bytes stand behind the last flag, 0 to 21, or 22 for more
  *   3 to 23  these bytes; 0 where there is none, and all 0 where there are more than 21
- * A fresh one is 24 times 0, which a caller writes itself. None is out of range: in byte 0 and 1 any number above 1 counts as 1, and in byte 2 any
- * number above 21 as more than 21.
+ * A fresh one is 24 times 0, which a caller writes itself. None is out of range. In bytes 0 and 1 any number above 1 counts as 1, and a call writes 1
+ * there; in byte 2 any number above 21 says that there are more, and it and bytes 3 to 23 stay as they are until a byte of a frame or a flag is read.
  */
 
 /*

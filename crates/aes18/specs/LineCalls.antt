@@ -15,35 +15,35 @@ use Rattle.aes18.specs.Room.{noRoom}
 -- ---- writing
 
 -- the number answered
-unfoldable pub writeAnswered : List ℕ → List ℕ → List ℕ → ℕ
-writeAnswered packet line answer = cond (ltb (length answer) lineWriteLength) noRoom (writeRefusal packet line)
+unfoldable pub lineWriteAnswered : List ℕ → List ℕ → List ℕ → ℕ
+lineWriteAnswered packet line answer = cond (ltb (length answer) lineWriteLength) noRoom (writeRefusal packet line)
 
 -- what line and answer are then
-unfoldable pub writeLine : List ℕ → List ℕ → List ℕ → List ℕ
-writeLine packet line answer = cond (eqb (writeAnswered packet line answer) 0) (outputAfter packet line) line
+unfoldable pub lineWritten : List ℕ → List ℕ → List ℕ → List ℕ
+lineWritten packet line answer = cond (eqb (lineWriteAnswered packet line answer) 0) (outputAfter packet line) line
 
-unfoldable pub writeAnswer : List ℕ → List ℕ → List ℕ → List ℕ
-writeAnswer packet line answer =
-    cond (eqb (writeAnswered packet line answer) 0) (sets answer 0 (lineWriteBytes (length (lineFrame packet)))) answer
+unfoldable pub lineWriteAnswer : List ℕ → List ℕ → List ℕ → List ℕ
+lineWriteAnswer packet line answer =
+    cond (eqb (lineWriteAnswered packet line answer) 0) (sets answer 0 (lineWriteBytes (length (lineFrame packet)))) answer
 
 -- ---- reading
 
 -- the number answered
-unfoldable pub readAnswered : List ℕ → List ℕ → List ℕ → ℕ
-readAnswered bytes packet answer =
+unfoldable pub lineReadAnswered : List ℕ → List ℕ → List ℕ → ℕ
+lineReadAnswered bytes packet answer =
     cond (ltb (length bytes) lineLength || ltb (length packet) packetLength || ltb (length answer) lineReadLength) noRoom 0
 
 -- what record, packet and answer are then
-unfoldable pub readRecord : List ℕ → List ℕ → List ℕ → List ℕ → List ℕ
-readRecord bytes line packet answer =
-    cond (eqb (readAnswered bytes packet answer) 0) (sets bytes 0 (lineBytes (reading (lineIn bytes) line .line))) bytes
+unfoldable pub lineReadRecord : List ℕ → List ℕ → List ℕ → List ℕ → List ℕ
+lineReadRecord bytes line packet answer =
+    cond (eqb (lineReadAnswered bytes packet answer) 0) (sets bytes 0 (lineBytes (reading (lineIn bytes) line .line))) bytes
 
-unfoldable pub readPacket : List ℕ → List ℕ → List ℕ → List ℕ → List ℕ
-readPacket bytes line packet answer =
+unfoldable pub lineReadPacket : List ℕ → List ℕ → List ℕ → List ℕ → List ℕ
+lineReadPacket bytes line packet answer =
     let r = reading (lineIn bytes) line in
-    cond (eqb (readAnswered bytes packet answer) 0) (sets packet 0 (take (r .length) (r .frame))) packet
+    cond (eqb (lineReadAnswered bytes packet answer) 0) (sets packet 0 (take (r .length) (r .frame))) packet
 
-unfoldable pub readAnswer : List ℕ → List ℕ → List ℕ → List ℕ → List ℕ
-readAnswer bytes line packet answer =
+unfoldable pub lineReadAnswer : List ℕ → List ℕ → List ℕ → List ℕ → List ℕ
+lineReadAnswer bytes line packet answer =
     let r = reading (lineIn bytes) line in
-    cond (eqb (readAnswered bytes packet answer) 0) (sets answer 0 (lineReadBytes (r .length) (r .read))) answer
+    cond (eqb (lineReadAnswered bytes packet answer) 0) (sets answer 0 (lineReadBytes (r .length) (r .read))) answer

@@ -16,7 +16,7 @@ ghost use Rattle.aes18.specs.SenderCalls as sends;
 ghost use Rattle.aes18.specs.SenderCalls.{systemAsked};
 ghost use Rattle.aes18.specs.ReceiverCalls as receives;
 ghost use Rattle.aes18.specs.TotalsCalls.{noteAnswered, noteRecord};
-ghost use Rattle.aes18.specs.LineCalls as lines;
+ghost use Rattle.aes18.specs.LineCalls.{lineWriteAnswered, lineWritten, lineWriteAnswer, lineReadAnswered, lineReadRecord, lineReadPacket, lineReadAnswer};
 
 // The answer where a record, a packet's place or an answer is shorter than it has to be.
 const NO_ROOM: u32 = 255;
@@ -194,9 +194,9 @@ pub extern "C" fn aes18_totals_note(record: &mut [u8], answer: &[u8]) -> u32
 // A packet is written as a frame of the serial line.
 #[no_mangle]
 pub extern "C" fn aes18_line_write(packet: &[u8], line: &mut [u8], answer: &mut [u8]) -> u32
-    ensures { λ r. ⌜ (r ≡ lines.writeAnswered (now (packet .entry)) (now (line .entry)) (now (answer .entry)))
-        × (now (line .exit) ≡ lines.writeLine (now (packet .entry)) (now (line .entry)) (now (answer .entry)))
-        × (now (answer .exit) ≡ lines.writeAnswer (now (packet .entry)) (now (line .entry)) (now (answer .entry))) ⌝ }
+    ensures { λ r. ⌜ (r ≡ lineWriteAnswered (now (packet .entry)) (now (line .entry)) (now (answer .entry)))
+        × (now (line .exit) ≡ lineWritten (now (packet .entry)) (now (line .entry)) (now (answer .entry)))
+        × (now (answer .exit) ≡ lineWriteAnswer (now (packet .entry)) (now (line .entry)) (now (answer .entry))) ⌝ }
 {
     if answer.len() < serial_layout::WRITE_ANSWER {
         return NO_ROOM;
@@ -218,10 +218,10 @@ pub extern "C" fn aes18_line_read(
     packet: &mut [u8],
     answer: &mut [u8],
 ) -> u32
-    ensures { λ r. ⌜ (r ≡ lines.readAnswered (now («record» .entry)) (now (packet .entry)) (now (answer .entry)))
-        × (now («record» .exit) ≡ lines.readRecord (now («record» .entry)) (now (line .entry)) (now (packet .entry)) (now (answer .entry)))
-        × (now (packet .exit) ≡ lines.readPacket (now («record» .entry)) (now (line .entry)) (now (packet .entry)) (now (answer .entry)))
-        × (now (answer .exit) ≡ lines.readAnswer (now («record» .entry)) (now (line .entry)) (now (packet .entry)) (now (answer .entry))) ⌝ }
+    ensures { λ r. ⌜ (r ≡ lineReadAnswered (now («record» .entry)) (now (packet .entry)) (now (answer .entry)))
+        × (now («record» .exit) ≡ lineReadRecord (now («record» .entry)) (now (line .entry)) (now (packet .entry)) (now (answer .entry)))
+        × (now (packet .exit) ≡ lineReadPacket (now («record» .entry)) (now (line .entry)) (now (packet .entry)) (now (answer .entry)))
+        × (now (answer .exit) ≡ lineReadAnswer (now («record» .entry)) (now (line .entry)) (now (packet .entry)) (now (answer .entry))) ⌝ }
 {
     if record.len() < serial_layout::LENGTH {
         return NO_ROOM;

@@ -1,10 +1,10 @@
--- Laws of lists: a stretch written over a list (`sets` of lib.Seq), and lists that are filled up with one element.
+-- Laws of lists: a stretch written over a list (`sets` of lib.Seq), lists that are filled up with one element, and lists joined.
 use mathlib.Core.Path.{_≡_, refl, sym, ap, _∙_}
 use Prim.Native.Nat.{ℕ, zero, suc, _+_, _-_, _≤_, _<_}
 use native.Mathlib.Nat.{add-zero, zero-add, add-suc, suc-add, sub-zero, zero-sub, suc-sub-suc}
 use native.Mathlib.Numerals.{add-one}
 use native.Mathlib.Omega.{arith}
-use mathlib.Core.List.{List, [], _∷_, _++_, append-assoc, append-nil}
+use mathlib.Core.List.{List, [], _∷_, _++_, flatten, append-assoc, append-nil}
 use lib.ListN.{length, take, drop, getD, set, replicate, length-append, length-drop, length-replicate, drop-of-length-le, take-append-drop, replicate-append-replicate}
 use lib.Seq.{sets, sets-eq, take-set-le, take-set-lt, drop-set-lt, drop-set-add, take-suc, take-all, take-append-seam, drop-append-add, length-take-le}
 
@@ -91,3 +91,9 @@ module _ {ℓ} {A : Type ℓ} where
   pub drop-sets-add : (v : List A) (n : ℕ) (l : List A) (i : ℕ) → drop n (sets l (n + i) v) ≡ sets (drop n l) i v
   drop-sets-add [] n l i = refl
   drop-sets-add (a ∷ v) n l i = rw (← add-suc n i, ← drop-set-add n l i a) (drop-sets-add v n (set l (n + i) a) (suc i))
+
+  -- lists of lists, joined
+  pub flatten-append : (xs ys : List (List A)) → flatten (xs ++ ys) ≡ flatten xs ++ flatten ys
+  unfolding flatten
+  flatten-append [] ys = refl
+  flatten-append (x ∷ xs) ys = rw (flatten-append xs ys, append-assoc)

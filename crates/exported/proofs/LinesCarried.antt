@@ -25,7 +25,7 @@ use Rattle.serial.proofs.ReadCalls.{reading-long, read-within, reads-declared}
 use Rattle.serial_layout.specs.LineBytes.{lineLength, lineBytes, lineIn, packetLength, lineWriteLength, lineWriteBytes, lineReadLength, lineReadBytes}
 use Rattle.serial_layout.proofs.LineRoundTrip.{line-unpacks, line-long, length-lineBytes, line-fresh}
 use Rattle.aes18.specs.Room.{noRoom}
-use Rattle.aes18.specs.LineCalls.{writeAnswered, writeLine, writeAnswer, readAnswered, readRecord, readPacket, readAnswer}
+use Rattle.aes18.specs.LineCalls.{lineWriteAnswered, lineWritten, lineWriteAnswer, lineReadAnswered, lineReadRecord, lineReadPacket, lineReadAnswer}
 use Rattle.exported.specs.Lines.{LentWrite, lentSent, writesOf, LentLineRead, lineReadHasRoom, packetOfLength, lentPackets, linesOf}
 
 -- what is written to the start of bytes, with those behind it
@@ -47,14 +47,14 @@ module _ (p line answer : List ℕ) where
   -- the bytes that a call puts on the line
   abbrev Put : List ℕ
   Put =
-      cond (eqb (writeAnswered p line answer) 0) (take (numberAt 8 (writeAnswer p line answer) 0) (writeLine p line answer)) []
+      cond (eqb (lineWriteAnswered p line answer) 0) (take (numberAt 8 (lineWriteAnswer p line answer) 0) (lineWritten p line answer)) []
 
   put-roomless : leb lineWriteLength (length answer) ≡ false → Put ≡ []
-  unfolding writeAnswered noRoom
+  unfolding lineWriteAnswered noRoom
   put-roomless e = rw (lt-ltb (length answer) lineWriteLength (leb-false lineWriteLength (length answer) e))
 
   put-room : leb lineWriteLength (length answer) ≡ true → Put ≡ bytesOf (serial.writeAnswer p line) (outputAfter p line)
-  unfolding writeAnswered writeAnswer writeLine serial.writeAnswer outputAfter bytesOf worstCase
+  unfolding lineWriteAnswered lineWriteAnswer lineWritten serial.writeAnswer outputAfter bytesOf worstCase
   put-room e =
       let room : lineWriteLength ≤ length answer = leb-true lineWriteLength (length answer) e in
       rw (le-ltb (length answer) lineWriteLength room)
@@ -70,10 +70,10 @@ module _ (p line answer : List ℕ) where
       short : fits p ≡ true → length (lineFrame p) < 256 ^ 8
       short f = omega (arith, length-lineFrame p, fits-most p f)
 
-pub writes-carried : (cs : List LentWrite) → lentSent cs ≡ sent (writesOf cs)
+pub line-writes-carried : (cs : List LentWrite) → lentSent cs ≡ sent (writesOf cs)
 unfolding lentSent writesOf sent
-writes-carried [] = refl
-writes-carried (c ∷ cs) = go (leb lineWriteLength (length (c .answer))) refl (writes-carried cs)
+line-writes-carried [] = refl
+line-writes-carried (c ∷ cs) = go (leb lineWriteLength (length (c .answer))) refl (line-writes-carried cs)
   where
     go : (t : Bool) → leb lineWriteLength (length (c .answer)) ≡ t → lentSent cs ≡ sent (writesOf cs)
         → Put (c .packet) (c .line) (c .answer) ++ lentSent cs
@@ -99,17 +99,17 @@ place-front n frame place inside room =
 -- the packets of a call
 abbrev Given : List ℕ → List ℕ → List ℕ → List ℕ → List (List ℕ)
 Given bytes line place answer =
-    cond (eqb (readAnswered bytes place answer) 0)
-    (packetOfLength (numberAt 8 (readAnswer bytes line place answer) 0) (readPacket bytes line place answer)) []
+    cond (eqb (lineReadAnswered bytes place answer) 0)
+    (packetOfLength (numberAt 8 (lineReadAnswer bytes line place answer) 0) (lineReadPacket bytes line place answer)) []
 
 module _ (bytes line place answer : List ℕ) (h : lineLength ≤ length bytes) where
   module _ (p : packetLength ≤ length place) (a : lineReadLength ≤ length answer) where
-    accepted : readAnswered bytes place answer ≡ 0
-    unfolding readAnswered
+    accepted : lineReadAnswered bytes place answer ≡ 0
+    unfolding lineReadAnswered
     accepted = rw (le-ltb (length bytes) lineLength h, le-ltb (length place) packetLength p, le-ltb (length answer) lineReadLength a)
 
     given-room : Given bytes line place answer ≡ packetOf (reading (lineIn bytes) line)
-    unfolding readAnswer readPacket packetOfLength packetOf
+    unfolding lineReadAnswer lineReadPacket packetOfLength packetOf
     given-room =
         let r = reading (lineIn bytes) line in
         let short : r .length ≤ 19 = reading-length (lineIn bytes) line in
@@ -120,46 +120,46 @@ module _ (bytes line place answer : List ℕ) (h : lineLength ≤ length bytes) 
           place-front (r .length) (r .frame) place (omega arith) (omega arith),
         )
 
-    record-room : readRecord bytes line place answer ≡ lineBytes (reading (lineIn bytes) line .line) ++ drop lineLength bytes
-    unfolding readRecord
+    record-room : lineReadRecord bytes line place answer ≡ lineBytes (reading (lineIn bytes) line .line) ++ drop lineLength bytes
+    unfolding lineReadRecord
     record-room =
         let l = reading (lineIn bytes) line .line in
         let long : length (lineBytes l) ≡ lineLength = length-lineBytes l (reading-long (lineIn bytes) line (line-long bytes h) .0) in
         rw accepted (front-written bytes (lineBytes l) (omega (arith, long)) ∙ rw long)
 
-    record-in : lineIn (readRecord bytes line place answer) ≡ reading (lineIn bytes) line .line
+    record-in : lineIn (lineReadRecord bytes line place answer) ≡ reading (lineIn bytes) line .line
     record-in =
         let l = reading (lineIn bytes) line .line in
         rw record-room (line-unpacks l (reading-long (lineIn bytes) line (line-long bytes h) .0) (drop lineLength bytes))
 
   -- where there is no room nothing is given, and the record stays
-  roomless : (ltb (length place) packetLength || ltb (length answer) lineReadLength) ≡ true → readAnswered bytes place answer ≡ 255
-  unfolding readAnswered noRoom
+  roomless : (ltb (length place) packetLength || ltb (length answer) lineReadLength) ≡ true → lineReadAnswered bytes place answer ≡ 255
+  unfolding lineReadAnswered noRoom
   roomless e = rw (le-ltb (length bytes) lineLength h, e)
 
   -- the record's bytes stay as many
-  record-long : lineLength ≤ length (readRecord bytes line place answer)
-  unfolding readRecord
-  record-long = go (eqb (readAnswered bytes place answer) 0)
+  record-long : lineLength ≤ length (lineReadRecord bytes line place answer)
+  unfolding lineReadRecord
+  record-long = go (eqb (lineReadAnswered bytes place answer) 0)
     where
       go : (t : Bool) → lineLength ≤ length (cond t (sets bytes 0 (lineBytes (reading (lineIn bytes) line .line))) bytes)
       go true = rw length-sets h
       go false = h
 
 -- what a call gives and leaves, as a call of document 02 or as none
-record Carried (bytes : List ℕ) (c : LentLineRead) (has : Bool) : Type 0 where
+record LineCarried (bytes : List ℕ) (c : LentLineRead) (has : Bool) : Type 0 where
   pub given : Given bytes (c .line) (c .packet) (c .answer) ≡ cond has (packetOf (reading (lineIn bytes) (c .line))) []
-  pub left : lineIn (readRecord bytes (c .line) (c .packet) (c .answer)) ≡ cond has (reading (lineIn bytes) (c .line) .line) (lineIn bytes)
+  pub left : lineIn (lineReadRecord bytes (c .line) (c .packet) (c .answer)) ≡ cond has (reading (lineIn bytes) (c .line) .line) (lineIn bytes)
 
-call-carried : (bytes : List ℕ) → lineLength ≤ length bytes → (c : LentLineRead) → Carried bytes c (lineReadHasRoom c)
-unfolding lineReadHasRoom readRecord
-call-carried bytes h c =
+line-call-carried : (bytes : List ℕ) → lineLength ≤ length bytes → (c : LentLineRead) → LineCarried bytes c (lineReadHasRoom c)
+unfolding lineReadHasRoom lineReadRecord
+line-call-carried bytes h c =
     go (leb packetLength (length (c .packet))) refl (leb lineReadLength (length (c .answer))) refl
   where
-    none : (ltb (length (c .packet)) packetLength || ltb (length (c .answer)) lineReadLength) ≡ true → Carried bytes c false
+    none : (ltb (length (c .packet)) packetLength || ltb (length (c .answer)) lineReadLength) ≡ true → LineCarried bytes c false
     none e = let number = roomless bytes (c .line) (c .packet) (c .answer) h e in record { given = rw number; left = rw number }
 
-    go : (s : Bool) → leb packetLength (length (c .packet)) ≡ s → (t : Bool) → leb lineReadLength (length (c .answer)) ≡ t → Carried bytes c (s && t)
+    go : (s : Bool) → leb packetLength (length (c .packet)) ≡ s → (t : Bool) → leb lineReadLength (length (c .answer)) ≡ t → LineCarried bytes c (s && t)
     go true p true a =
         let place = leb-true packetLength (length (c .packet)) p in
         let answer = leb-true lineReadLength (length (c .answer)) a in
@@ -173,16 +173,16 @@ call-carried bytes h c =
     go false p t a = none (rw (lt-ltb (length (c .packet)) packetLength (leb-false packetLength (length (c .packet)) p)))
 
 -- from any record's bytes on
-pub reads-carried : (cs : List LentLineRead) (bytes : List ℕ) → lineLength ≤ length bytes → lentPackets bytes cs ≡ packetsRead (lineIn bytes) (linesOf cs)
+pub line-reads-carried : (cs : List LentLineRead) (bytes : List ℕ) → lineLength ≤ length bytes → lentPackets bytes cs ≡ packetsRead (lineIn bytes) (linesOf cs)
 unfolding lentPackets linesOf packetsRead
-reads-carried [] bytes h = refl
-reads-carried (c ∷ cs) bytes h =
-    go (lineReadHasRoom c) (call-carried bytes h c) (reads-carried cs (readRecord bytes (c .line) (c .packet) (c .answer)) (record-long bytes (c .line) (c .packet) (c .answer) h))
+line-reads-carried [] bytes h = refl
+line-reads-carried (c ∷ cs) bytes h =
+    go (lineReadHasRoom c) (line-call-carried bytes h c) (line-reads-carried cs (lineReadRecord bytes (c .line) (c .packet) (c .answer)) (record-long bytes (c .line) (c .packet) (c .answer) h))
   where
     after : List ℕ
-    after = readRecord bytes (c .line) (c .packet) (c .answer)
+    after = lineReadRecord bytes (c .line) (c .packet) (c .answer)
 
-    go : (has : Bool) → Carried bytes c has → lentPackets after cs ≡ packetsRead (lineIn after) (linesOf cs)
+    go : (has : Bool) → LineCarried bytes c has → lentPackets after cs ≡ packetsRead (lineIn after) (linesOf cs)
         → Given bytes (c .line) (c .packet) (c .answer) ++ lentPackets after cs
         ≡ packetsRead (lineIn bytes) (cond has (c .line ∷ linesOf cs) (linesOf cs))
     go true w rest = rw (w .given, rest, w .left)
@@ -195,12 +195,12 @@ lines-carried cs rest =
     let zeros : List ℕ = replicate lineLength 0 ++ rest in
     let long : lineLength ≤ length zeros = rw (length-append, length-replicate) (omega arith) in
     let first : lineIn zeros ≡ fresh = ap (λ (bs : List ℕ). lineIn (bs ++ rest)) (sym line-fresh) ∙ line-unpacks fresh refl rest in
-    reads-carried cs zeros long ∙ rw first (reads-declared (linesOf cs))
+    line-reads-carried cs zeros long ∙ rw first (reads-declared (linesOf cs))
 
 -- the bytes read are told in the answer
-pub line-read-told : (bytes line place answer : List ℕ) → readAnswered bytes place answer ≡ 0 → lineReadLength ≤ length answer → length line < 2 ^ 64
-    → numberAt 8 (readAnswer bytes line place answer) 8 ≡ reading (lineIn bytes) line .read
-unfolding readAnswer lineReadBytes
+pub line-read-told : (bytes line place answer : List ℕ) → lineReadAnswered bytes place answer ≡ 0 → lineReadLength ≤ length answer → length line < 2 ^ 64
+    → numberAt 8 (lineReadAnswer bytes line place answer) 8 ≡ reading (lineIn bytes) line .read
+unfolding lineReadAnswer lineReadBytes
 line-read-told bytes line place answer accepted room few =
     let r = reading (lineIn bytes) line in
     let long : length (lowBytes 8 (r .length) ++ lowBytes 8 (r .read)) ≡ 16 = rw (length-append, length-lowBytes, length-lowBytes) in

@@ -1,5 +1,5 @@
 -- Lists of exported calls of the serial line, told by what they answer and leave in the bytes lent to them, and document 02's calls that they are (ask 3).
--- `writes-carried` and `reads-carried` say that they put the same bytes on a line, and give the same packets.
+-- `line-writes-carried` and `line-reads-carried` say that they put the same bytes on a line, and give the same packets.
 use Prim.Native.Nat.{ℕ}
 use mathlib.Core.Bool.{Bool, cond, _&&_}
 use mathlib.Core.List.{List, [], _∷_, _++_}
@@ -8,7 +8,7 @@ use lib.Dec.{leb, eqb}
 use Rattle.layout.specs.Layout.{numberAt}
 use Rattle.serial.specs.Writing.{WriteCall}
 use Rattle.serial_layout.specs.LineBytes.{packetLength, lineWriteLength, lineReadLength}
-use Rattle.aes18.specs.LineCalls.{writeAnswered, writeLine, writeAnswer, readAnswered, readRecord, readPacket, readAnswer}
+use Rattle.aes18.specs.LineCalls.{lineWriteAnswered, lineWritten, lineWriteAnswer, lineReadAnswered, lineReadRecord, lineReadPacket, lineReadAnswer}
 
 -- ---- writing
 
@@ -22,8 +22,8 @@ pub record LentWrite : Type 0 where
 unfoldable pub lentSent : List LentWrite → List ℕ
 lentSent [] = []
 lentSent (c ∷ cs) =
-    cond (eqb (writeAnswered (c .packet) (c .line) (c .answer)) 0)
-    (take (numberAt 8 (writeAnswer (c .packet) (c .line) (c .answer)) 0) (writeLine (c .packet) (c .line) (c .answer)))
+    cond (eqb (lineWriteAnswered (c .packet) (c .line) (c .answer)) 0)
+    (take (numberAt 8 (lineWriteAnswer (c .packet) (c .line) (c .answer)) 0) (lineWritten (c .packet) (c .line) (c .answer)))
     []
     ++ lentSent cs
 
@@ -53,10 +53,10 @@ packetOfLength n place = cond (eqb n 0) [] (take n place ∷ [])
 unfoldable pub lentPackets : List ℕ → List LentLineRead → List (List ℕ)
 lentPackets bytes [] = []
 lentPackets bytes (c ∷ cs) =
-    cond (eqb (readAnswered bytes (c .packet) (c .answer)) 0)
-    (packetOfLength (numberAt 8 (readAnswer bytes (c .line) (c .packet) (c .answer)) 0) (readPacket bytes (c .line) (c .packet) (c .answer)))
+    cond (eqb (lineReadAnswered bytes (c .packet) (c .answer)) 0)
+    (packetOfLength (numberAt 8 (lineReadAnswer bytes (c .line) (c .packet) (c .answer)) 0) (lineReadPacket bytes (c .line) (c .packet) (c .answer)))
     []
-    ++ lentPackets (readRecord bytes (c .line) (c .packet) (c .answer)) cs
+    ++ lentPackets (lineReadRecord bytes (c .line) (c .packet) (c .answer)) cs
 
 -- the bytes lent to document 02's calls among them
 unfoldable pub linesOf : List LentLineRead → List (List ℕ)

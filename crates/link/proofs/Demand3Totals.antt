@@ -2,10 +2,11 @@
 use Prim.Native.Nat.{ℕ, _+_, _*_, _≤_, _<_, min}
 use native.Mathlib.Omega.{arith}
 use mathlib.Core.Bool.{Bool, true, false, cond}
-use mathlib.Core.List.{List, [], _∷_, _++_, map, flatten, append-assoc}
+use mathlib.Core.List.{List, [], _∷_, _++_, map, flatten}
 use mathlib.Core.Path.{_≡_, refl, ap, _∙_}
 use lib.ListN.{length, take, drop, length-append, length-take, length-drop}
 use lib.Dec.{eqb}
+use Rattle.bits.proofs.Lists.{flatten-append}
 use Rattle.packet.specs.Lists.{AllAre}
 use Rattle.packet.specs.Messages.{longest}
 use Rattle.packet.specs.Stores.{region}
@@ -33,11 +34,6 @@ record Counted (loss : ℕ) (handed : List (List ℕ)) (f : Figures) : Type 0 wh
   lost : f .lost ≡ loss
   messages : f .messages ≡ length handed
   bytes : f .bytes ≡ length (flatten handed)
-
-flatten-append : (a b : List (List ℕ)) → flatten (a ++ b) ≡ flatten a ++ flatten b
-unfolding flatten
-flatten-append [] b = refl
-flatten-append (x ∷ a) b = rw (flatten-append a b, append-assoc)
 
 -- none, and those of some and others together
 counted-none : Counted 0 [] noFigures

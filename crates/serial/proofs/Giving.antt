@@ -1,7 +1,7 @@
 -- The machine against the declaration: over any bytes, from any record, it gives what stands in the line that the record stands for with these bytes
 -- behind it.
 use Prim.Native.Nat.{ℕ, _+_, _-_, _≤_, _<_}
-use mathlib.Core.Bool.{Bool, true, false, cond, _&&_}
+use mathlib.Core.Bool.{Bool, true, false, cond, _&&_, and-false}
 use mathlib.Core.List.{List, [], _∷_, _++_, flatten, append-assoc, append-nil}
 use mathlib.Core.Option.{Option, none, some}
 use mathlib.Core.Path.{_≡_, refl, sym, ap, _∙_}
@@ -154,11 +154,7 @@ gives l b = cond (isFlag b && passes l) (take (l .count - 2) (l .bytes) ∷ []) 
 
 gives-none : (l : Line) (b : ℕ) → passes l ≡ false → gives l b ≡ []
 unfolding gives
-gives-none l b e = rw e (go (isFlag b))
-  where
-    go : (t : Bool) → cond (t && false) (take (l .count - 2) (l .bytes) ∷ []) [] ≡ []
-    go true = refl
-    go false = refl
+gives-none l b e = rw (e, and-false (isFlag b))
 
 gives-plain : (l : Line) (b : ℕ) → isFlag b ≡ false → gives l b ≡ []
 unfolding gives

@@ -1,9 +1,10 @@
 -- Laws of a line split at its flags: bytes without a flag before it, a flag inside it, and one frame between two flags.
 use Prim.Native.Nat.{ℕ}
 use mathlib.Core.Bool.{Bool, true, false, cond, _||_, true≢false}
-use mathlib.Core.List.{List, [], _∷_, _++_, map, flatten, map-append, append-nil, append-assoc}
+use mathlib.Core.List.{List, [], _∷_, _++_, map, flatten, map-append, append-nil}
 use mathlib.Core.Path.{_≡_, refl, sym, ap, _∙_}
 use lib.ListN.{drop}
+use Rattle.bits.proofs.Lists.{flatten-append}
 use Rattle.serial.specs.Octets.{flag, isFlag}
 use Rattle.serial.specs.Frames.{hasFlag, ontoFirst, pieces, butLast, between, given, unescaped, packetsIn}
 
@@ -72,11 +73,6 @@ unfolding pieces butLast
 between-resync xs ys = between-flag xs ys ∙ sym (rw (between-flag xs [], between-flag [] ys, append-nil))
 
 -- ---- packets
-
-flatten-append : {A : Type 0} (xs ys : List (List A)) → flatten (xs ++ ys) ≡ flatten xs ++ flatten ys
-unfolding flatten
-flatten-append [] ys = refl
-flatten-append (x ∷ xs) ys = ap (λ l. x ++ l) (flatten-append xs ys) ∙ sym (simp append-assoc)
 
 -- what follows a flag is read as behind a first one
 pub packetsIn-resync : (xs ys : List ℕ) → packetsIn (xs ++ flag ∷ ys) ≡ packetsIn (xs ++ flag ∷ []) ++ packetsIn (flag ∷ ys)

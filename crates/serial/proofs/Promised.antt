@@ -1,6 +1,6 @@
 -- The serial line is as document 02 says.
 use Prim.Native.Nat.{ℕ}
-use mathlib.Core.Bool.{Bool, true, false, cond, xor, _&&_}
+use mathlib.Core.Bool.{true, false, cond, xor, and-false}
 use mathlib.Core.List.{List, [], _∷_, _++_, flatten, append-assoc}
 use mathlib.Core.Option.{some}
 use mathlib.Core.Path.{_≡_, refl, sym, ap, _∙_}
@@ -32,11 +32,7 @@ module _ (xs bytes : List ℕ) (none : hasFlag xs ≡ false) (is : unescaped xs 
 
   outside-length : fits (packet bytes) ≡ false → packetsIn (flag ∷ xs ++ flag ∷ []) ≡ []
   unfolding passing
-  outside-length e = frame-given ∙ rw e (go (fcsRight bytes))
-    where
-      go : (t : Bool) → cond (t && false) (packet bytes ∷ []) [] ≡ []
-      go true = refl
-      go false = refl
+  outside-length e = frame-given ∙ rw (e, and-false (fcsRight bytes))
 
   no-other : fcsRight bytes ≡ true → fits (packet bytes) ≡ true → packetsIn (flag ∷ xs ++ flag ∷ []) ≡ packet bytes ∷ []
   unfolding passing

@@ -1,6 +1,6 @@
 -- What is written is read back: packets, and the packets of writing calls.
 use Prim.Native.Nat.{ℕ, _+_, _≤_}
-use mathlib.Core.Bool.{Bool, true, false, cond, _&&_, true≢false}
+use mathlib.Core.Bool.{true, cond}
 use mathlib.Core.List.{List, [], _∷_, _++_, map, flatten, append-assoc}
 use mathlib.Core.Path.{_≡_, refl, sym, ap, _∙_}
 use native.Mathlib.Omega.{arith}
@@ -8,6 +8,7 @@ use lib.ListN.{length, take, drop, length-append}
 use lib.Seq.{sets, take-append-seam}
 use lib.Dec.{eqb}
 use Rattle.bits.proofs.Lists.{sets-behind}
+use Rattle.bits.proofs.Tests.{and-left, and-right}
 use Rattle.hdlc.specs.Frames.{withFcs}
 use Rattle.hdlc.specs.Bodies.{packet}
 use Rattle.hdlc.proofs.WithFcs.{length-withFcs, packet-withFcs, fcsRight-withFcs}
@@ -57,16 +58,12 @@ unfolding lineOf lineFrame flatten hasFlag
 lineOf-flag [] = packetsIn-open [] refl ∙ sym no-bytes
 lineOf-flag (p ∷ ps) = two-flags ((escapedBytes (withFcs p) ++ flag ∷ []) ++ flatten (map lineFrame ps))
 
-and-true : (s t : Bool) → (s && t) ≡ true → (s ≡ true) × (t ≡ true)
-and-true true t e = (refl, e)
-and-true false t e = absurd (true≢false (sym e))
-
 pub read-back : (ps : List (List ℕ)) → allFit ps ≡ true → packetsIn (lineOf ps) ≡ ps
 unfolding lineOf flatten allFit
 read-back [] f = no-bytes
 read-back (p ∷ ps) f =
-    let each = and-true (fits p) (allFit ps) f in
-    packetsIn-behind p (lineOf ps) ∙ rw (packetsIn-lineFrame p (each .0), lineOf-flag ps, read-back ps (each .1))
+    packetsIn-behind p (lineOf ps)
+    ∙ rw (packetsIn-lineFrame p (and-left (fits p) (allFit ps) f), lineOf-flag ps, read-back ps (and-right (fits p) (allFit ps) f))
 
 -- ---- writing calls
 

@@ -19,9 +19,6 @@ use Rattle.serial.proofs.Giving.{gives, givenIn, run, step-long, given-
 
 -- ---- bytes in two parts
 
-length-take-most : (n : ℕ) (bs : List ℕ) → length (take n bs) ≤ n
-length-take-most n bs = rw length-take (omega arith)
-
 givenIn-append : (l : Line) (xs ys : List ℕ) → givenIn l (xs ++ ys) ≡ givenIn l xs ++ givenIn (run l xs) ys
 unfolding givenIn run
 givenIn-append l [] ys = refl
@@ -143,7 +140,7 @@ module _ (l : Line) (bs : List ℕ) where
 pub first-read : (l : Line) (bs : List ℕ) (n : ℕ) → n < reading l bs .read → packetOf (reading l (take n bs)) ≡ []
 first-read l bs n h =
     let m = reading l (take n bs) .read in
-    let few : m ≤ n = omega (arith, read-within l (take n bs), length-take-most n bs) in
+    let few : m ≤ n = omega (arith, read-within l (take n bs), length-take n bs) in
     packets-read l (take n bs) ∙ rw (take-take m n bs few) (fewer-none l bs m (omega arith))
 
 -- ---- lists of calls

@@ -1,6 +1,6 @@
 -- What the functions' proofs cite, on plain values: the steps of a reader, whether a flag gives a packet, and turns of reading.
 use Prim.Native.Nat.{ℕ, suc, _+_, _-_, _*_, _≤_, _<_}
-use mathlib.Core.Bool.{Bool, true, false, cond, not, _&&_, false≢true}
+use mathlib.Core.Bool.{Bool, true, false, cond, not, _&&_, and-true, and-false, false≢true}
 use mathlib.Core.List.{List, [], _∷_}
 use mathlib.Core.Path.{_≡_, refl, sym, _∙_}
 use native.Mathlib.Numerals.{add-one}
@@ -47,10 +47,6 @@ module _ (l : Line) (b : ℕ) where
 
 -- ---- whether a flag gives a packet
 
-both : (t : Bool) → (t && false) ≡ false
-both true = refl
-both false = refl
-
 -- the length of a packet is that of packet and FCS, less 2
 pub length-packet : (bytes : List ℕ) → length (packet bytes) ≡ length bytes - 2
 unfolding packet
@@ -59,12 +55,12 @@ length-packet bytes = length-take-le (length bytes - 2) bytes (omega arith)
 -- a packet of too few bytes does not pass, and one of too many
 pub passing-short : (bytes : List ℕ) → length bytes < 4 → passing bytes ≡ false
 unfolding passing fits
-passing-short bytes h = rw (length-packet, lt-leb 2 (length bytes - 2) (omega arith)) (both (fcsRight bytes))
+passing-short bytes h = rw (length-packet, lt-leb 2 (length bytes - 2) (omega arith)) (and-false (fcsRight bytes))
 
 pub passing-long : (bytes : List ℕ) → 21 < length bytes → passing bytes ≡ false
 unfolding passing fits
 passing-long bytes h =
-    rw (length-packet, lt-leb (length bytes - 2) 19 (omega arith), both (leb 2 (length bytes - 2))) (both (fcsRight bytes))
+    rw (length-packet, lt-leb (length bytes - 2) 19 (omega arith), and-false (leb 2 (length bytes - 2))) (and-false (fcsRight bytes))
 
 module _ (l : Line) where
   pub passes-outside : l .inside ≡ false → passes l ≡ false
@@ -73,17 +69,17 @@ module _ (l : Line) where
 
   pub passes-escape : l .escape ≡ true → passes l ≡ false
   unfolding passes
-  passes-escape e = rw (e, both (l .inside))
+  passes-escape e = rw (e, and-false (l .inside))
 
   pub passes-short : l .count < 4 → passes l ≡ false
   unfolding passes
   passes-short h =
       let few : length (take (l .count) (l .bytes)) < 4 = rw length-take (omega arith) in
-      rw (passing-short (take (l .count) (l .bytes)) few) (both (l .inside && not (l .escape) && leb (l .count) 21))
+      rw (passing-short (take (l .count) (l .bytes)) few) (and-false (l .inside && not (l .escape) && leb (l .count) 21))
 
   pub passes-long : 21 < l .count → passes l ≡ false
   unfolding passes
-  passes-long h = rw (lt-leb (l .count) 21 h, both (l .inside && not (l .escape)))
+  passes-long h = rw (lt-leb (l .count) 21 h, and-false (l .inside && not (l .escape)))
 
   -- a packet given is not empty
   pub passes-least : passes l ≡ true → 4 ≤ l .count
@@ -121,11 +117,7 @@ module _ (l : Line) where
           fcsRight-take (l .count) (l .bytes) (omega arith) there,
           ← is,
         )
-        (go (eqb (getD (l .bytes) (l .count - 2) 0 + 256 * getD (l .bytes) (l .count - 2 + 1) 0) r))
-      where
-        go : (t : Bool) → (t && true) ≡ t
-        go true = refl
-        go false = refl
+        (and-true (eqb (getD (l .bytes) (l .count - 2) 0 + 256 * getD (l .bytes) (l .count - 2 + 1) 0) r))
 
 -- ---- one turn of reading
 

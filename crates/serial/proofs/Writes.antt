@@ -2,7 +2,7 @@
 use Prim.Native.Nat.{ℕ, _+_, _*_, _≤_, _<_}
 use mathlib.Core.Bool.{Bool, true, false, cond}
 use mathlib.Core.List.{List}
-use mathlib.Core.Path.{_≡_, refl}
+use mathlib.Core.Path.{_≡_, refl, ap, _∙_}
 use native.Mathlib.Omega.{arith}
 use borrow.Author.Tests.{le-leb, lt-leb, leb-true}
 use lib.ListN.{length}
@@ -30,11 +30,15 @@ module _ (p output : List ℕ) where
   packet-many h = refused (rw (le-leb 2 (length p) (omega arith), lt-leb (length p) 19 h))
 
   module _ (lo : 2 ≤ length p) (hi : length p ≤ 19) where
+    short-refused : length output < 2 * (length p + 2) + 2 → writeRefusal p output ≡ 16
+    unfolding writeRefusal worstCase
+    short-refused h =
+        ap (λ (t : Bool). cond t (cond (leb (worstCase p) (length output)) 0 16) 17) (fits-in p lo hi)
+        ∙ ap (λ (t : Bool). cond t 0 16) (lt-leb (2 * (length p + 2) + 2) (length output) h)
+
     pub output-short : length output < 2 * (length p + 2) + 2 → (Refused 16 ≡ writeAnswer p output) × (output ≡ outputAfter p output)
-    unfolding writeAnswer outputAfter writeRefusal worstCase
-    output-short h =
-        let short = lt-leb (2 * (length p + 2) + 2) (length output) h in
-        (rw (fits-in p lo hi, short), rw (fits-in p lo hi, short))
+    unfolding writeAnswer outputAfter
+    output-short h = (rw (short-refused h), rw (short-refused h))
 
     pub accepted : (n : ℕ) (new : List ℕ) → 2 * (length p + 2) + 2 ≤ length output → n ≡ length (lineFrame p) → new ≡ sets output 0 (lineFrame p)
         → (Frame n ≡ writeAnswer p output) × (new ≡ outputAfter p output)

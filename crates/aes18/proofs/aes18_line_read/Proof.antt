@@ -3,19 +3,19 @@ use mathlib.Core.Path.{ap, _∙_}
 use Rattle.serial.specs.declared.Line.{Line}
 use Rattle.serial.specs.Machine.{reading}
 use Rattle.serial.proofs.Stepping.{reading-length}
-use Rattle.aes18.proofs.LineOutcomes.{read-short, read-short-packet, read-short-answer, read-long}
+use Rattle.aes18.proofs.LineOutcomes.{line-read-short, line-short-packet, line-short-answer, line-read-long}
 use borrow.Author.Needs.{needs}
 use Rattle.aes18.proofs.aes18_line_read.Statement.{statement}
 use Rattle.aes18.proofs.aes18_line_read.Tie as tie
 
 returns : tie.Need-returns
-returns c = read-short _ _ _ _ (c .if1 .taken)
+returns c = line-read-short _ _ _ _ (c .if1 .taken)
 
 returns-2 : tie.Need-returns-2
-returns-2 c = read-short-packet _ _ _ _ (c .before .if1 .left) (c .if2 .taken)
+returns-2 c = line-short-packet _ _ _ _ (c .before .if1 .left) (c .if2 .taken)
 
 returns-3 : tie.Need-returns-3
-returns-3 c = read-short-answer _ _ _ _ (c .before .before .if1 .left) (c .before .if2 .left) (c .if3 .taken)
+returns-3 c = line-short-answer _ _ _ _ (c .before .before .if1 .left) (c .before .if2 .left) (c .if3 .taken)
 
 line-in-requires : tie.Need-line-in-requires
 line-in-requires c κs = search needs
@@ -25,9 +25,6 @@ read-requires c κs = search needs
 
 put-line-requires : tie.Need-put-line-requires
 put-line-requires c κs = search needs
-
-put-packet-requires : tie.Need-put-packet-requires
-put-packet-requires c κs = (rw (c .before .before .before .before .before .before .before .read .ensures) (reading-length _ _), c .before .before .before .before .before .before .before .before .before .before .before .if2 .left)
 
 put-read-answer-requires : tie.Need-put-read-answer-requires
 put-read-answer-requires c κs = search needs
@@ -43,11 +40,14 @@ same-length-3 c = search needs
 
 returns-4 : tie.Need-returns-4
 returns-4 c =
-    read-long _ _ _ _ (c .before .before .before .before .before .before .before .before .before .before .before .before .before .before .before .before .before .before .before .if1 .left) (c .before .before .before .before .before .before .before .before .before .before .before .before .before .before .before .before .before .before .if2 .left) (c .before .before .before .before .before .before .before .before .before .before .before .before .before .before .before .before .before .if3 .left)
+    line-read-long _ _ _ _ (c .before .before .before .before .before .before .before .before .before .before .before .before .before .before .before .before .before .before .before .if1 .left) (c .before .before .before .before .before .before .before .before .before .before .before .before .before .before .before .before .before .before .if2 .left) (c .before .before .before .before .before .before .before .before .before .before .before .before .before .before .before .before .before .if3 .left)
     (c .before .before .before .before .before .before .before .before .before .before .before .before .before .before .read .ensures ∙ ap (λ (l : Line). reading l (c .before .before .before .before .before .before .before .before .before .before .before .before .before .before .before .before .before .before .before .before .before .before .before .before .args .line .now)) (c .before .before .before .before .before .before .before .before .before .before .before .before .before .before .before .line-in .ensures))
     (c .before .before .before .before .before .before .before .before .before .before .put-line .ensures)
     (c .before .before .before .before .before .before .put-packet .ensures)
     (c .before .before .put-read-answer .ensures)
+
+put-packet-requires : tie.Need-put-packet-requires
+put-packet-requires c κs = (rw (c .before .before .before .before .before .before .before .read .ensures) (reading-length _ _), c .before .before .before .before .before .before .before .before .before .before .before .if2 .left)
 
 pub aes18-line-read-spec : {M : Type 1} → statement M
 aes18-line-read-spec =

@@ -1,11 +1,11 @@
 -- `aes18::aes18_line_write` meets its contract.
-use Rattle.aes18.proofs.LineOutcomes.{write-short, write-frame, write-refused}
+use Rattle.aes18.proofs.LineOutcomes.{line-write-short, line-write-frame, line-write-refused}
 use borrow.Author.Needs.{needs}
 use Rattle.aes18.proofs.aes18_line_write.Statement.{statement}
 use Rattle.aes18.proofs.aes18_line_write.Tie as tie
 
 returns : tie.Need-returns
-returns c = write-short _ _ _ (c .if1 .taken)
+returns c = line-write-short _ _ _ (c .if1 .taken)
 
 write-requires : tie.Need-write-requires
 write-requires c κs = search needs
@@ -30,13 +30,13 @@ same-length-2 c = search needs
 
 returns-2 : tie.Need-returns-2
 returns-2 c =
-    write-frame _ _ _ (c .before .before .before .before .before .before .before .before .before .before .before .if1 .left) (c .before .before .before .before .before .before .before .before .before .write .ensures .0) (c .before .before .before .before .before .before .before .before .before .write .ensures .1) _ (c .before .before .before .before .before .n .given .1) (c .before .before .put-number .ensures)
+    line-write-frame _ _ _ (c .before .before .before .before .before .before .before .before .before .before .before .if1 .left) (c .before .before .before .before .before .before .before .before .before .write .ensures .0) (c .before .before .before .before .before .before .before .before .before .write .ensures .1) _ (c .before .before .before .before .before .n .given .1) (c .before .before .put-number .ensures)
 
 same-length-3 : tie.Need-same-length-3
 same-length-3 c = search needs
 
 returns-3 : tie.Need-returns-3
-returns-3 c = write-refused _ _ _ (c .before .before .before .before .before .before .before .if1 .left) (c .before .before .before .before .before .write .ensures .0) (c .before .before .before .before .before .write .ensures .1) _ (c .before .number .given .1)
+returns-3 c = line-write-refused _ _ _ (c .before .before .before .before .before .before .before .if1 .left) (c .before .before .before .before .before .write .ensures .0) (c .before .before .before .before .before .write .ensures .1) _ (c .before .number .given .1)
 
 pub aes18-line-write-spec : {M : Type 1} → statement M
 aes18-line-write-spec =

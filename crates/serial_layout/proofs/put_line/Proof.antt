@@ -23,17 +23,17 @@ copy-in-requires c κs = search needs
 slice-aggregate-copy-at : tie.Need-slice-aggregate-copy-at
 slice-aggregate-copy-at c = search needs
 
-copy-at-requires : tie.Need-copy-at-requires
-copy-at-requires c κs =
-    let long : length (c .before .before .before .before .before .before .before .before .before .before .before .args .line .bytes) ≡ 21 = search needs in
-    omega arith
-
 same-length : tie.Need-same-length
 same-length c = search needs
 
 returns : tie.Need-returns
 unfolding lineBytes bitValue
 returns c = rw (c .before .before .copy-at .ensures, c .before .before .before .before .before .before .before .copy-in .ensures)
+
+copy-at-requires : tie.Need-copy-at-requires
+copy-at-requires c κs =
+    let long : length (c .before .before .before .before .before .before .before .before .before .before .before .args .line .bytes) ≡ 21 = search needs in
+    omega arith
 
 pub put-line-spec : {M : Type 1} → statement M
 put-line-spec =
