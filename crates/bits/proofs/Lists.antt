@@ -26,6 +26,10 @@ module _ {ℓ} {A : Type ℓ} where
       let fits : length x + length v ≤ length (x ++ y) = rw length-append (omega arith) in
       sets-eq v (x ++ y) (length x) fits ∙ rw (take-append-seam, drop-append-add, append-assoc)
 
+  -- one written from the start on stands before what lies behind it
+  pub sets-front : (l v : List A) → length v ≤ length l → sets l 0 v ≡ v ++ drop (length v) l
+  sets-front l v h = sets-behind [] l v h
+
   -- an element stored behind x
   pub set-append-add : (x y : List A) (n : ℕ) (a : A) → set (x ++ y) (length x + n) a ≡ x ++ set y n a
   set-append-add [] y n a = rw zero-add

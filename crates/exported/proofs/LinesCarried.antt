@@ -4,33 +4,29 @@ use mathlib.Core.Bool.{Bool, true, false, cond, _&&_, _||_}
 use mathlib.Core.List.{List, [], _∷_, _++_, append-assoc}
 use mathlib.Core.Path.{_≡_, refl, sym, ap, _∙_}
 use native.Mathlib.Omega.{arith}
-use borrow.Author.Tests.{le-ltb, lt-ltb, leb-true, leb-false}
+use borrow.Author.Tests.{ltb-false, le-ltb, lt-ltb, leb-true, leb-false}
 use lib.ListN.{length, take, drop, replicate, length-append, length-replicate}
 use lib.Seq.{sets, take-at, length-sets, length-take-le}
 use lib.Dec.{leb, ltb, eqb}
-use Rattle.bits.proofs.Lists.{sets-behind}
+use Rattle.bits.proofs.Lists.{sets-front}
 use Rattle.bits.proofs.Tests.{and-right}
 use Rattle.layout.specs.Layout.{lowBytes, numberAt}
 use Rattle.layout.proofs.Parts.{number-unpacks, number-after, length-lowBytes}
 use Rattle.serial.specs.declared.Written.the-variants.{Frame, Refused}
 use Rattle.serial.specs.Octets.{lineFrame, fits}
-use Rattle.serial.specs.Writing.{worstCase, outputAfter, bytesOf, sent}
+use Rattle.serial.specs.Writing.{worstCase, outputAfter, bytesOf, sent, packetsSent}
 use Rattle.serial.specs.Writing as serial
 use Rattle.serial.specs.Frames.{packetsIn}
 use Rattle.serial.specs.Machine.{fresh, reading, packetOf, packetsRead, bytesRead}
 use Rattle.serial.proofs.Stepping.{reading-length}
 use Rattle.serial.proofs.Writes.{write-cases}
-use Rattle.serial.proofs.ReadBack.{length-lineFrame}
+use Rattle.serial.proofs.ReadBack.{length-lineFrame, writes-read}
 use Rattle.serial.proofs.ReadCalls.{reading-long, read-within, reads-declared}
 use Rattle.serial_layout.specs.LineBytes.{lineLength, lineBytes, lineIn, packetLength, lineWriteLength, lineWriteBytes, lineReadLength, lineReadBytes}
 use Rattle.serial_layout.proofs.LineRoundTrip.{line-unpacks, line-long, length-lineBytes, line-fresh}
 use Rattle.aes18.specs.Room.{noRoom}
 use Rattle.aes18.specs.LineCalls.{lineWriteAnswered, lineWritten, lineWriteAnswer, lineReadAnswered, lineReadRecord, lineReadPacket, lineReadAnswer}
 use Rattle.exported.specs.Lines.{LentWrite, lentSent, writesOf, LentLineRead, lineReadHasRoom, packetOfLength, lentPackets, linesOf}
-
--- what is written to the start of bytes, with those behind it
-front-written : (bytes front : List ℕ) → length front ≤ length bytes → sets bytes 0 front ≡ front ++ drop (length front) bytes
-front-written bytes front room = sets-behind [] bytes front room
 
 -- ---- writing
 
@@ -41,7 +37,7 @@ fits-most p f = leb-true (length p) 19 (and-right (leb 2 (length p)) (leb (lengt
 write-told : (n : ℕ) (answer : List ℕ) → lineWriteLength ≤ length answer → n < 256 ^ 8 → numberAt 8 (sets answer 0 (lineWriteBytes n)) 0 ≡ n
 unfolding lineWriteBytes
 write-told n answer room h =
-    rw (front-written answer (lowBytes 8 n) (rw length-lowBytes room)) (number-unpacks 8 n h (drop (length (lowBytes 8 n)) answer))
+    rw (sets-front answer (lowBytes 8 n) (rw length-lowBytes room)) (number-unpacks 8 n h (drop (length (lowBytes 8 n)) answer))
 
 module _ (p line answer : List ℕ) where
   -- the bytes that a call puts on the line
@@ -87,20 +83,30 @@ read-told : (n read : ℕ) (answer : List ℕ) → lineReadLength ≤ length ans
 unfolding lineReadBytes
 read-told n read answer room h =
     let long : length (lowBytes 8 n ++ lowBytes 8 read) ≡ 16 = rw (length-append, length-lowBytes, length-lowBytes) in
-    rw (front-written answer (lowBytes 8 n ++ lowBytes 8 read) (omega (arith, long)), append-assoc)
+    rw (sets-front answer (lowBytes 8 n ++ lowBytes 8 read) (omega (arith, long)), append-assoc)
     (number-unpacks 8 n h (lowBytes 8 read ++ drop (length (lowBytes 8 n ++ lowBytes 8 read)) answer))
 
 -- the first bytes of a place to which these are written
 place-front : (n : ℕ) (frame place : List ℕ) → n ≤ length frame → n ≤ length place → take n (sets place 0 (take n frame)) ≡ take n frame
 place-front n frame place inside room =
     let long : length (take n frame) ≡ n = length-take-le n frame inside in
-    rw (front-written place (take n frame) (omega (arith, long))) (take-at (take n frame) _ n long)
+    rw (sets-front place (take n frame) (omega (arith, long))) (take-at (take n frame) _ n long)
 
 -- the packets of a call
 abbrev Given : List ℕ → List ℕ → List ℕ → List ℕ → List (List ℕ)
 Given bytes line place answer =
     cond (eqb (lineReadAnswered bytes place answer) 0)
     (packetOfLength (numberAt 8 (lineReadAnswer bytes line place answer) 0) (lineReadPacket bytes line place answer)) []
+
+-- an accepted call's answer has room
+answer-room : (bytes place answer : List ℕ) → lineReadAnswered bytes place answer ≡ 0 → lineReadLength ≤ length answer
+unfolding lineReadAnswered noRoom
+answer-room bytes place answer e = go (ltb (length bytes) lineLength || ltb (length place) packetLength) (ltb (length answer) lineReadLength) refl e
+  where
+    go : (s t : Bool) → ltb (length answer) lineReadLength ≡ t → _≡_ {A = ℕ} (cond (s || t) 255 0) 0 → lineReadLength ≤ length answer
+    go true t h k = absurd (omega arith)
+    go false true h k = absurd (omega arith)
+    go false false h k = ltb-false (length answer) lineReadLength h
 
 module _ (bytes line place answer : List ℕ) (h : lineLength ≤ length bytes) where
   module _ (p : packetLength ≤ length place) (a : lineReadLength ≤ length answer) where
@@ -125,7 +131,7 @@ module _ (bytes line place answer : List ℕ) (h : lineLength ≤ length bytes) 
     record-room =
         let l = reading (lineIn bytes) line .line in
         let long : length (lineBytes l) ≡ lineLength = length-lineBytes l (reading-long (lineIn bytes) line (line-long bytes h) .0) in
-        rw accepted (front-written bytes (lineBytes l) (omega (arith, long)) ∙ rw long)
+        rw accepted (sets-front bytes (lineBytes l) (omega (arith, long)) ∙ rw long)
 
     record-in : lineIn (lineReadRecord bytes line place answer) ≡ reading (lineIn bytes) line .line
     record-in =
@@ -197,13 +203,18 @@ lines-carried cs rest =
     let first : lineIn zeros ≡ fresh = ap (λ (bs : List ℕ). lineIn (bs ++ rest)) (sym line-fresh) ∙ line-unpacks fresh refl rest in
     line-reads-carried cs zeros long ∙ rw first (reads-declared (linesOf cs))
 
+-- what exported calls write and exported calls read, cut anywhere: the packets that were not refused
+pub lines-across : (ws : List LentWrite) (cs : List LentLineRead) (rest : List ℕ) → bytesRead fresh (linesOf cs) ≡ lentSent ws
+    → lentPackets (replicate lineLength 0 ++ rest) cs ≡ packetsSent (writesOf ws)
+lines-across ws cs rest e = lines-carried cs rest ∙ ap packetsIn (e ∙ line-writes-carried ws) ∙ writes-read (writesOf ws)
+
 -- the bytes read are told in the answer
-pub line-read-told : (bytes line place answer : List ℕ) → lineReadAnswered bytes place answer ≡ 0 → lineReadLength ≤ length answer → length line < 2 ^ 64
+pub line-read-told : (bytes line place answer : List ℕ) → lineReadAnswered bytes place answer ≡ 0 → length line < 2 ^ 64
     → numberAt 8 (lineReadAnswer bytes line place answer) 8 ≡ reading (lineIn bytes) line .read
 unfolding lineReadAnswer lineReadBytes
-line-read-told bytes line place answer accepted room few =
+line-read-told bytes line place answer accepted few =
     let r = reading (lineIn bytes) line in
     let long : length (lowBytes 8 (r .length) ++ lowBytes 8 (r .read)) ≡ 16 = rw (length-append, length-lowBytes, length-lowBytes) in
-    rw (accepted, front-written answer (lowBytes 8 (r .length) ++ lowBytes 8 (r .read)) (omega (arith, long)), append-assoc)
+    rw (accepted, sets-front answer (lowBytes 8 (r .length) ++ lowBytes 8 (r .read)) (omega (arith, long, answer-room bytes place answer accepted)), append-assoc)
     (number-after 8 (lowBytes 8 (r .length)) (lowBytes 8 (r .read) ++ drop (length (lowBytes 8 (r .length) ++ lowBytes 8 (r .read))) answer) 8 (length-lowBytes 8 (r .length))
     ∙ number-unpacks 8 (r .read) (omega (arith, read-within (lineIn bytes) line)) _)

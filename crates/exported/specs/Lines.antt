@@ -1,5 +1,6 @@
 -- Lists of exported calls of the serial line, told by what they answer and leave in the bytes lent to them, and document 02's calls that they are (ask 3).
--- `line-writes-carried` and `line-reads-carried` say that they put the same bytes on a line, and give the same packets.
+-- `line-writes-carried` and `line-reads-carried` say that they put the same bytes on a line, and give the same packets; `lines-carried` and `lines-across` what
+-- that comes to from a fresh record on, and `line-read-told` that the bytes read are told.
 use Prim.Native.Nat.{ℕ}
 use mathlib.Core.Bool.{Bool, cond, _&&_}
 use mathlib.Core.List.{List, [], _∷_, _++_}

@@ -6,19 +6,13 @@ use native.Mathlib.Omega.{arith}
 use mathlib.Core.Bool.{Bool, true, false}
 use mathlib.Core.List.{List, _++_}
 use lib.ListN.{length, drop, replicate, length-append, length-replicate}
-use lib.Seq.{sets, sets-eq}
+use lib.Seq.{sets}
 use Rattle.bits.specs.Bits.{bitsOf, fillBytes, bytesOf, Bytes}
-use Rattle.bits.proofs.Lists.{sets-append}
+use Rattle.bits.proofs.Lists.{sets-append, sets-front}
 use Rattle.bits.proofs.Bits.{length-bitsOf, bitsOf-append, drop-bitsOf, bitsOf-fillBytes, Bytes-fillBytes, Bytes-append, Bytes-drop, bitsOf-injective}
 use Rattle.hdlc.specs.Writing.{Written}
 use Rattle.sender.specs.Blocks.{blockBuffer}
 use Rattle.sender.specs.BlockCalls.{Closed}
-
--- bits written from the first on stand before those behind them
-sets-front : (l v : List Bool) → length v ≤ length l → sets l 0 v ≡ v ++ drop (length v) l
-sets-front l v h =
-    let fits : 0 + length v ≤ length l = omega arith in
-    sets-eq v l 0 fits ∙ rw zero-add
 
 module _ (old : List ℕ) (bits : List Bool) (fits : length bits ≤ 8 * length old) where
   abbrev bytes : ℕ

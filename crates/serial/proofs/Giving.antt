@@ -14,7 +14,7 @@ use lib.Dec.{leb, ltb}
 use Rattle.hdlc.specs.Bodies.{packet}
 use Rattle.serial.specs.declared.Line.{Line}
 use Rattle.serial.specs.Octets.{flag, escape, isFlag, isEscape, toggled, escapedBytes}
-use Rattle.serial.specs.Frames.{hasFlag, pieces, butLast, between, ontoBytes, unescapedFrom, unescaped, given, packetsIn}
+use Rattle.serial.specs.Frames.{hasFlag, pieces, between, ontoBytes, unescapedFrom, unescaped, given, packetsIn}
 use Rattle.serial.specs.Machine.{opened, keep, taken, step, passes}
 use Rattle.serial.specs.SerialLine.{standsFor}
 use Rattle.serial.proofs.Stepping.{taken-behind, taken-escape, taken-plain, step-flag, step-inside, step-outside, passes-outside, passes-escape, passes-long, passes-held, passing-long}
@@ -278,7 +278,7 @@ run l (b ∷ bs) = run (step l b) bs
 
 -- no packet is in a line that a record stands for
 stands-none : (l : Line) → packetsIn (standsFor l) ≡ []
-unfolding packetsIn between pieces butLast flatten
+unfolding packetsIn between pieces flatten
 stands-none l = go (l .inside) refl
   where
     go : (t : Bool) → l .inside ≡ t → packetsIn (standsFor l) ≡ []

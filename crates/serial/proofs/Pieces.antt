@@ -1,12 +1,12 @@
 -- Laws of a line split at its flags: bytes without a flag before it, a flag inside it, and one frame between two flags.
 use Prim.Native.Nat.{ℕ}
 use mathlib.Core.Bool.{Bool, true, false, cond, _||_, true≢false}
-use mathlib.Core.List.{List, [], _∷_, _++_, map, flatten, map-append, append-nil}
+use mathlib.Core.List.{List, [], _∷_, _++_, map, flatten, map-append, append-nil, dropLast}
 use mathlib.Core.Path.{_≡_, refl, sym, ap, _∙_}
 use lib.ListN.{drop}
 use Rattle.bits.proofs.Lists.{flatten-append}
 use Rattle.serial.specs.Octets.{flag, isFlag}
-use Rattle.serial.specs.Frames.{hasFlag, ontoFirst, pieces, butLast, between, given, unescaped, packetsIn}
+use Rattle.serial.specs.Frames.{hasFlag, ontoFirst, pieces, between, given, unescaped, packetsIn}
 
 -- ---- pieces
 
@@ -55,21 +55,20 @@ pieces-flag (x ∷ xs) ys = go (isFlag x) (pieces-flag xs ys)
 
 -- ---- between flags
 
-butLast-append : {A : Type 0} (xs : List A) (b : A) (bs : List A) → butLast (xs ++ b ∷ bs) ≡ xs ++ butLast (b ∷ bs)
-unfolding butLast
-butLast-append [] b bs = refl
-butLast-append (a ∷ []) b bs = refl
-butLast-append (a ∷ c ∷ xs) b bs = ap (_∷_ a) (butLast-append (c ∷ xs) b bs)
+dropLast-append : {A : Type 0} (xs : List A) (b : A) (bs : List A) → dropLast (xs ++ b ∷ bs) ≡ xs ++ dropLast (b ∷ bs)
+dropLast-append [] b bs = refl
+dropLast-append (a ∷ []) b bs = refl
+dropLast-append (a ∷ c ∷ xs) b bs = ap (_∷_ a) (dropLast-append (c ∷ xs) b bs)
 
-between-flag : (xs ys : List ℕ) → between (xs ++ flag ∷ ys) ≡ drop 1 (pieces xs) ++ butLast (pieces ys)
+between-flag : (xs ys : List ℕ) → between (xs ++ flag ∷ ys) ≡ drop 1 (pieces xs) ++ dropLast (pieces ys)
 unfolding between
 between-flag xs ys =
     let a = pieces-some xs in
     let b = pieces-some ys in
-    rw (pieces-flag xs ys, a .is, b .is) (butLast-append (a .rest) (b .first) (b .rest))
+    rw (pieces-flag xs ys, a .is, b .is) (dropLast-append (a .rest) (b .first) (b .rest))
 
 between-resync : (xs ys : List ℕ) → between (xs ++ flag ∷ ys) ≡ between (xs ++ flag ∷ []) ++ between (flag ∷ ys)
-unfolding pieces butLast
+unfolding pieces
 between-resync xs ys = between-flag xs ys ∙ sym (rw (between-flag xs [], between-flag [] ys, append-nil))
 
 -- ---- packets
@@ -86,27 +85,27 @@ packetsIn-skipped xs ys n = let s = pieces-some ys in rw (pieces-plain xs ys n (
 
 -- what stands behind the last flag is in no frame yet
 pub packetsIn-open : (xs : List ℕ) → hasFlag xs ≡ false → packetsIn (flag ∷ xs) ≡ []
-unfolding packetsIn between pieces isFlag butLast flatten
+unfolding packetsIn between pieces isFlag flatten
 packetsIn-open xs n =
     let all : pieces xs ≡ xs ∷ [] = rw append-nil at (pieces-plain xs [] n [] [] refl) in
     rw all
 
 -- one frame between two flags
 pub packetsIn-frame : (xs : List ℕ) → hasFlag xs ≡ false → packetsIn (flag ∷ xs ++ flag ∷ []) ≡ given (unescaped xs)
-unfolding packetsIn between pieces isFlag butLast flatten
+unfolding packetsIn between pieces isFlag flatten
 packetsIn-frame xs n = rw (pieces-plain xs (flag ∷ []) n [] ([] ∷ []) refl, append-nil xs, append-nil)
 
 -- bytes behind a flag that are judged alike, whatever follows, are read alike
 pub packetsIn-alike : (xs ys : List ℕ) → hasFlag xs ≡ false → hasFlag ys ≡ false
     → ((zs : List ℕ) → given (unescaped (xs ++ zs)) ≡ given (unescaped (ys ++ zs)))
     → (zs : List ℕ) → packetsIn (flag ∷ xs ++ zs) ≡ packetsIn (flag ∷ ys ++ zs)
-unfolding packetsIn between pieces isFlag butLast flatten
+unfolding packetsIn between pieces isFlag flatten
 packetsIn-alike xs ys n m alike zs =
     let s = pieces-some zs in
     rw (pieces-plain xs zs n (s .first) (s .rest) (s .is), pieces-plain ys zs m (s .first) (s .rest) (s .is)) (go (s .first) (s .rest))
   where
     go : (first : List ℕ) (rest : List (List ℕ))
-        → flatten (map (λ piece. given (unescaped piece)) (butLast ((xs ++ first) ∷ rest)))
-        ≡ flatten (map (λ piece. given (unescaped piece)) (butLast ((ys ++ first) ∷ rest)))
+        → flatten (map (λ piece. given (unescaped piece)) (dropLast ((xs ++ first) ∷ rest)))
+        ≡ flatten (map (λ piece. given (unescaped piece)) (dropLast ((ys ++ first) ∷ rest)))
     go first [] = refl
     go first (r ∷ rest) = rw (alike first)

@@ -7,7 +7,7 @@ use native.Mathlib.Omega.{arith}
 use lib.ListN.{length, take, drop, length-append}
 use lib.Seq.{sets, take-append-seam}
 use lib.Dec.{eqb}
-use Rattle.bits.proofs.Lists.{sets-behind}
+use Rattle.bits.proofs.Lists.{sets-front}
 use Rattle.bits.proofs.Tests.{and-left, and-right}
 use Rattle.hdlc.specs.Frames.{withFcs}
 use Rattle.hdlc.specs.Bodies.{packet}
@@ -15,7 +15,7 @@ use Rattle.hdlc.proofs.WithFcs.{length-withFcs, packet-withFcs, fcsRight-withFc
 use Rattle.serial.specs.declared.Written.the-variants.{Frame, Refused}
 use Rattle.serial.specs.Octets.{flag, escapedBytes, lineFrame, lineOf, fits}
 use Rattle.serial.specs.Writing.{worstCase, writeAnswer, outputAfter, WriteCall, bytesOf, sent, packetsSent}
-use Rattle.serial.specs.Frames.{hasFlag, pieces, butLast, between, unescapedFrom, unescaped, passing, given, packetsIn}
+use Rattle.serial.specs.Frames.{hasFlag, pieces, between, unescapedFrom, unescaped, passing, given, packetsIn}
 use Rattle.serial.specs.SerialLine.{allFit}
 use Rattle.serial.proofs.Escaping.{length-escapedBytes}
 use Rattle.serial.proofs.Writes.{write-cases}
@@ -50,7 +50,7 @@ packetsIn-behind p ys =
 -- ---- a line
 
 no-bytes : packetsIn [] ≡ []
-unfolding packetsIn between pieces butLast flatten
+unfolding packetsIn between pieces flatten
 no-bytes = refl
 
 lineOf-flag : (ps : List (List ℕ)) → packetsIn (flag ∷ lineOf ps) ≡ packetsIn (lineOf ps)
@@ -78,7 +78,7 @@ module _ (p output : List ℕ) where
   bytes-written : worstCase p ≤ length output → take (length (lineFrame p)) (sets output 0 (lineFrame p)) ≡ lineFrame p
   bytes-written h =
       let room : length (lineFrame p) ≤ length output = omega (arith, length-lineFrame p) in
-      rw (sets-behind [] output (lineFrame p) room) (take-append-seam (lineFrame p) (drop (length (lineFrame p)) output))
+      rw (sets-front output (lineFrame p) room) (take-append-seam (lineFrame p) (drop (length (lineFrame p)) output))
 
 -- the line of calls is that of the packets not refused, and these fit
 record Line-of (line : List ℕ) (ps : List (List ℕ)) : Type 0 where

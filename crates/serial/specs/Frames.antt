@@ -1,7 +1,7 @@
 -- Frames in any bytes, and the packets that they give (document 02, ask 3): the line is split at its flags.
 use Prim.Native.Nat.{ℕ}
 use mathlib.Core.Bool.{Bool, true, false, cond, _&&_, _||_}
-use mathlib.Core.List.{List, [], _∷_, map, flatten}
+use mathlib.Core.List.{List, [], _∷_, map, flatten, dropLast}
 use mathlib.Core.Option.{Option, none, some}
 use lib.ListN.{drop}
 use Rattle.hdlc.specs.Bodies.{fcsRight, packet}
@@ -21,15 +21,9 @@ unfoldable pub pieces : List ℕ → List (List ℕ)
 pieces [] = [] ∷ []
 pieces (b ∷ bs) = cond (isFlag b) ([] ∷ pieces bs) (ontoFirst b (pieces bs))
 
--- all but the last
-unfoldable pub butLast : {A : Type 0} → List A → List A
-butLast [] = []
-butLast (x ∷ []) = []
-butLast (x ∷ y ∷ xs) = x ∷ butLast (y ∷ xs)
-
 -- what stands between two flags: "Bytes before the first flag are skipped", and those behind the last are in no frame yet
 unfoldable pub between : List ℕ → List (List ℕ)
-between line = butLast (drop 1 (pieces line))
+between line = dropLast (drop 1 (pieces line))
 
 unfoldable pub ontoBytes : ℕ → Option (List ℕ) → Option (List ℕ)
 ontoBytes b none = none

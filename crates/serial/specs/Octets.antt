@@ -28,11 +28,10 @@ toggled b = bitXor b 0x20
 unfoldable pub escaped : ℕ → List ℕ
 escaped b = cond (isFlag b || isEscape b) (escape ∷ toggled b ∷ []) (b ∷ [])
 
--- packet and FCS as they are written; the FCS is that of the packet, and its bytes are escaped as any others
 unfoldable pub escapedBytes : List ℕ → List ℕ
 escapedBytes bytes = flatten (map escaped bytes)
 
--- a packet's frame: "between flags of its own"
+-- a packet's frame: "between flags of its own"; the FCS is that of the packet, and its bytes are escaped as any others
 unfoldable pub lineFrame : List ℕ → List ℕ
 lineFrame p = flag ∷ escapedBytes (withFcs p) ++ flag ∷ []
 

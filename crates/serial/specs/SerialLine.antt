@@ -67,7 +67,7 @@ pub record SerialLine : Type 0 where
   pub escapeThenFlag : (xs bytes : List ℕ) → hasFlag xs ≡ false → unescaped xs ≡ some bytes → packetsIn (flag ∷ xs ++ escape ∷ flag ∷ []) ≡ []
   pub noOther : (xs bytes : List ℕ) → hasFlag xs ≡ false → unescaped xs ≡ some bytes → fcsRight bytes ≡ true → fits (packet bytes) ≡ true
       → packetsIn (flag ∷ xs ++ flag ∷ []) ≡ packet bytes ∷ []
-  -- bytes without a flag have an escape that ends them, or are unescaped
+  -- all bytes are unescaped, or are such bytes and an escape behind them
   pub unescapes : (xs : List ℕ) → ((bytes : List ℕ) × (unescaped xs ≡ some bytes))
       ⊎ ((ys bytes : List ℕ) × (xs ≡ ys ++ escape ∷ []) × (unescaped ys ≡ some bytes))
   -- the reader finds what is declared, however the line is cut
