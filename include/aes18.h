@@ -317,8 +317,14 @@ uint32_t aes18_line_write(const uint8_t *packet, size_t packet_len, uint8_t *lin
 #define AES18_LINE_WRITE_BYTES 0
 
 /*
- * Reads bytes of a line. It stops behind the first packet, or at the end of the bytes. So a stretch of bytes is read by a loop:
+ * Reads bytes of a line. It stops behind the first packet, or at the end of the bytes. So a stretch of bytes is read by a loop, with one record for all
+ * stretches of a line:
  *
+ *     uint8_t record[AES18_LINE_RECORD] = {0}, packet[AES18_LONGEST_PACKET], answer[AES18_LINE_READ_ANSWER];
+ *     uint32_t refusal;
+ *     size_t at;
+ *
+ *     at = 0; (for each stretch)
  *     do {
  *         refusal = aes18_line_read(record, sizeof record, line + at, line_len - at, packet, sizeof packet, answer, sizeof answer);
  *         (leave the loop if it is refused)
@@ -326,8 +332,8 @@ uint32_t aes18_line_write(const uint8_t *packet, size_t packet_len, uint8_t *lin
  *         (take the packet, if there is one)
  *     } while (answer[AES18_LINE_READ_PACKET] != 0);
  *
- * The next call, with other bytes or the same, goes on as if the bytes had never been cut. A cut may be anywhere, between an escape and what it
- * escapes too.
+ * The next call, with the bytes that follow, goes on as if the bytes had never been cut. A cut may be anywhere, between an escape and what it escapes
+ * too.
  *
  * The answer, 16 bytes:
  *   0        the length of the packet, 2 to 19, or 0 where the bytes end before any

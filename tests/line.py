@@ -13,7 +13,7 @@ import sys
 import tempfile
 
 sys.dont_write_bytecode = True
-from document01 import Sender, fcs
+from document01 import FLAG as FLAG_BITS, Sender, fcs, frame
 
 TOOL, HEADER = sys.argv[1:]
 FLAG, ESCAPE = 0x7E, 0x7D
@@ -94,6 +94,12 @@ def bodies(line):
     return parts[1::2]
 
 
+def framed(parts):
+    """The line in which these stand between two flags each."""
+    flag = bytes([FLAG])
+    return b"".join(flag + part + flag for part in parts)
+
+
 def unescaped(body):
     return re.sub(b"\x7d(.)", lambda pair: bytes([pair.group(1)[0] ^ 0x20]), body, flags=re.DOTALL)
 
@@ -121,12 +127,38 @@ def dumped(line):
     return [tuple(packet) for packet in packets]
 
 
-def notices(line):
-    """What the tool tells of a line: the notices, and the totals."""
-    (WORK / "line").write_bytes(line)
-    told = tool("decode", "--line", "--json", "--circuits", ",".join(LISTED), WORK / "line").stdout
+def user_bits(packets):
+    """The user bits of these packets, frame behind frame."""
+    bits = FLAG_BITS + [bit for packet in packets for bit in frame(packet) + FLAG_BITS]
+    bits += [1] * (-len(bits) % 8)
+    return bytes(sum(bit << k for k, bit in enumerate(bits[i:i + 8])) for i in range(0, len(bits), 8))
+
+
+def decoded(*arguments):
+    """What the tool tells of user bits or a line: the notices without their places, and the totals."""
+    told = tool("decode", "--json", "--circuits", ",".join(LISTED), *arguments).stdout
     told = [json.loads(text) for text in told.decode().splitlines()]
-    return [notice for notice in told if "notice" in notice], told[-1]["totals"]
+    return [{member: notice[member] for member in notice if member not in ("bit", "byte")} for notice in told[:-1]], told[-1]["totals"]
+
+
+def notices(bits, packets):
+    """What the tool tells of these user bits, which have so many packets: the notices, and the totals of the circuits."""
+    (WORK / "bits").write_bytes(bits)
+    told, totals = decoded(WORK / "bits")
+    if len(told) != packets:
+        fail("decode tells %d notices of %d packets" % (len(told), packets))
+    return told, totals["circuits"]
+
+
+def notices_of_line(line, dropped):
+    """The same of a line in which all bytes stand between flags and so many frames are dropped."""
+    (WORK / "line").write_bytes(line)
+    told, totals = decoded("--line", WORK / "line")
+    expected = {"bytes": len(line), "before": 0, "behind": 0, "dropped": dropped}
+    found = {name: totals[name] for name in expected}
+    if found != expected:
+        fail("decode --line counts %s, not %s" % (found, expected))
+    return told, totals["circuits"]
 
 
 def check_escapes(expected):
@@ -165,24 +197,20 @@ def damages(body):
 
 def check_damage(line, expected):
     """Each frame in turn damaged in its FCS, in its packet, or by an escape before its closing flag: pppdump says so of that frame alone, and the tool drops
-    that frame alone."""
-    told, totals = notices(line)
-    if len(told) != len(expected) or totals["dropped"] != 0:
-        fail("decode --line tells %d notices of %d packets, and %d dropped" % (len(told), len(expected), totals["dropped"]))
+    that frame alone and tells what it tells of user bits with the others."""
     parts = bodies(line)
-    flag = bytes([FLAG])
     for number, body in enumerate(parts):
         others = expected[:number] + expected[number + 1:]
+        told = notices(user_bits(others), len(others))
         for word, damaged in damages(body):
-            torn = b"".join(flag + (damaged if k == number else part) + flag for k, part in enumerate(parts))
+            torn = framed(parts[:number] + [damaged] + parts[number + 1:])
             dump = dumped(torn)
             if [said for _, said in dump] != ["good"] * number + [word] + ["good"] * (len(parts) - number - 1):
                 fail("frame %d is damaged, and pppdump does not say that it alone is %s" % (number, word))
             if [packet for packet, _ in dump[:number] + dump[number + 1:]] != others:
                 fail("frame %d is damaged, and pppdump reads another wrongly" % number)
-            told, totals = notices(torn)
-            if len(told) != len(others) or totals["dropped"] != 1:
-                fail("frame %d is %s, and decode --line does not drop it alone" % (number, word))
+            if notices_of_line(torn, 1) != told:
+                fail("frame %d is %s, and decode --line tells something else than decode of the others" % (number, word))
 
 
 def run():
@@ -190,11 +218,13 @@ def run():
     (WORK / "plan").write_text("\n".join(plan.lines) + "\n")
     tool("encode", WORK / "plan", "-o", WORK / "bits")
     tool("line", WORK / "bits", "-o", WORK / "line")
-    line, expected = (WORK / "line").read_bytes(), plan.packets
+    bits, line, expected = (WORK / "bits").read_bytes(), (WORK / "line").read_bytes(), plan.packets
     check_escapes(expected)
     check_line(line, expected)
     if dumped(line) != [(packet, "good") for packet in expected]:
         fail("pppdump reads other packets than went in")
+    if notices_of_line(line, 0) != notices(bits, len(expected)):
+        fail("decode --line tells something else than decode of the bits")
     check_damage(line, expected)
     print("tests/line: pppdump reads the %d packets that went in, and tells of each that is damaged" % len(expected))
 

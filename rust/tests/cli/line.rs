@@ -28,6 +28,15 @@ fn line_of(packets: &[&[u8]]) -> Vec<u8> {
     line
 }
 
+/// The start of the totals of a line with a flag in it: its bytes, those before the first flag and those behind the last.
+fn read_of(line: &[u8]) -> String {
+    let is_flag = |byte: &u8| *byte == 0x7E;
+    let before = line.iter().position(is_flag).unwrap();
+    let behind = line.iter().rev().position(is_flag).unwrap();
+    let read = line.len();
+    format!("bytes read {read}, before the first flag {before}, behind the last {behind}")
+}
+
 /// The lines of notices without their places, and the totals without their last line.
 fn without_places(told: &str) -> String {
     let units = ["bits read", "bytes read"];
@@ -41,7 +50,7 @@ fn without_places(told: &str) -> String {
 }
 
 /// A folder with the bits of the plan, and their line.
-fn folder(name: &str) -> Folder {
+pub fn folder(name: &str) -> Folder {
     let folder = Folder::new(name);
     folder.write("plan", PLAN);
     assert_eq!(folder.run(&["encode", "plan", "-o", "bits"]).status, 0);
@@ -89,7 +98,7 @@ circuit    packets    copies      lost  messages     bytes   orphans     wrong
 01               1         0         0         1        10         0         0
 02:07            0         0         0         0         0         0         0
 7E               2         4         0         1        20         0         0
-bytes read 135; System 1, Dropped 0, Malformed 0, Elsewhere 0
+bytes read 135, before the first flag 0, behind the last 0; System 1, Dropped 0, Malformed 0, Elsewhere 0
 ";
     assert_eq!(line, expected);
 }
@@ -115,7 +124,7 @@ fn the_same_json() {
     let start =
         r#"{"byte":23,"notice":"Circuit","number":2,"circuit":"7E","loss":0,"fate":"Begun"}"#;
     assert_eq!(line[0], json::parse(start));
-    let totals = r#"{"totals":{"bytes":135,"system":1,"dropped":0,"malformed":0,"elsewhere":0,"circuits":[{"number":0,"circuit":"01","packets":1,"copies":0,"lost":0,"messages":1,"bytes":10,"orphans":0,"wrong":0},{"number":1,"circuit":"02:07","packets":0,"copies":0,"lost":0,"messages":0,"bytes":0,"orphans":0,"wrong":0},{"number":2,"circuit":"7E","packets":2,"copies":4,"lost":0,"messages":1,"bytes":20,"orphans":0,"wrong":0}]}}"#;
+    let totals = r#"{"totals":{"bytes":135,"before":0,"behind":0,"system":1,"dropped":0,"malformed":0,"elsewhere":0,"circuits":[{"number":0,"circuit":"01","packets":1,"copies":0,"lost":0,"messages":1,"bytes":10,"orphans":0,"wrong":0},{"number":1,"circuit":"02:07","packets":0,"copies":0,"lost":0,"messages":0,"bytes":0,"orphans":0,"wrong":0},{"number":2,"circuit":"7E","packets":2,"copies":4,"lost":0,"messages":1,"bytes":20,"orphans":0,"wrong":0}]}}"#;
     assert_eq!(line[8], json::parse(totals));
 }
 
@@ -238,9 +247,47 @@ byte 84: 01, loss 1, Whole, length 4: \"four\"
 
 circuit    packets    copies      lost  messages     bytes   orphans     wrong
 01               3         0         1         3        10         0         0
-bytes read 90; System 0, Dropped 4, Malformed 0, Elsewhere 0
+bytes read 90, before the first flag 8, behind the last 6; System 0, Dropped 4, Malformed 0, Elsewhere 0
 ";
     assert_eq!(told, expected);
+}
+
+/// Bytes before the first flag and behind the last are told: noise, a last frame whose closing flag is missing, and a line without a flag.
+#[test]
+fn bytes_in_no_frame() {
+    let folder = Folder::new("line-outside");
+    let frame = line_of(&[b"\x01\x81\x03one"]);
+    let unclosed = &frame[..frame.len() - 1];
+    let body = &unclosed[1..];
+    let length = body.len();
+    let cases: [(Vec<u8>, usize, usize, usize); 7] = [
+        (frame.clone(), 1, 0, 0),
+        ([b"} noise", &frame[..]].concat(), 1, 7, 0),
+        (unclosed.to_vec(), 0, 0, length),
+        ([&frame[..], unclosed].concat(), 1, 0, length),
+        ([body, &frame, body].concat(), 1, length, length),
+        (body.to_vec(), 0, length, 0),
+        (vec![0x7D; 100_000], 0, 100_000, 0),
+    ];
+    for (line, messages, before, behind) in cases {
+        folder.write("line", &line);
+        let told = |option: &[&str]| {
+            folder
+                .run(&[&["decode", "--line", "--circuits=01", "line"], option].concat())
+                .told()
+        };
+        let (text, json) = (told(&[]), told(&["--json"]));
+        assert_eq!(text.matches("Whole").count(), messages, "{text}");
+        let read = line.len();
+        let totals = format!(
+            "\nbytes read {read}, before the first flag {before}, behind the last {behind}; System 0, Dropped 0, "
+        );
+        assert!(text.contains(&totals), "{text}");
+        let totals = format!(
+            r#"{{"totals":{{"bytes":{read},"before":{before},"behind":{behind},"system":0,"dropped":0,"#
+        );
+        assert!(json.lines().last().unwrap().starts_with(&totals), "{json}");
+    }
 }
 
 /// A line that comes byte by byte is told as it comes: each notice stands there before the next byte is sent.
@@ -321,7 +368,7 @@ fn nothing_and_anything() {
     let told = folder
         .run(&["decode", "--line", "--circuits=01", "line"])
         .told();
-    let totals = "\nbytes read 0; System 0, Dropped 0, Malformed 0, Elsewhere 0\n";
+    let totals = "\nbytes read 0, before the first flag 0, behind the last 0; System 0, Dropped 0, Malformed 0, Elsewhere 0\n";
     assert!(
         told.starts_with("\ncircuit ") && told.ends_with(totals),
         "{told}"
@@ -336,7 +383,7 @@ fn nothing_and_anything() {
         .run(&["decode", "--line", "--circuits=01", "noise"])
         .told();
     assert!(
-        told.contains("\nbytes read 200000; System 0, Dropped "),
+        told.contains(&format!("\n{}; System 0, Dropped ", read_of(&noise))),
         "{told}"
     );
 }

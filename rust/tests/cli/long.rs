@@ -92,7 +92,8 @@ fn a_long_line_takes_little_memory() {
         &["decode", "--line", "--circuits=01,02:07", "line"],
     );
     assert_eq!(err, "");
-    let totals = totals(times, &format!("bytes read {bytes}; System 0, Dropped 0"));
+    let read = format!("bytes read {bytes}, before the first flag 0, behind the last 0");
+    let totals = totals(times, &format!("{read}; System 0, Dropped 0"));
     let end = String::from_utf8(end).unwrap();
     assert!(end.ends_with(&totals), "{end}");
 }

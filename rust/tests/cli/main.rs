@@ -10,4 +10,6 @@ mod json;
 mod line;
 mod long;
 mod runs;
+#[cfg(target_os = "linux")]
+mod terminal;
 mod usage;

@@ -8,6 +8,7 @@ fn help() {
     for option in ["--help", "-h"] {
         let told = folder.run(&[option]).told();
         assert!(told.contains("aes18 encode PLAN -o BITS"), "{told}");
+        assert!(told.contains("aes18 decode --line "), "{told}");
         for subcommand in ["encode", "decode", "show", "line"] {
             let told = folder.run(&[subcommand, option]).told();
             assert!(
@@ -24,6 +25,10 @@ fn help() {
     }
     let told = folder.run(&["decode", "--help"]).told();
     assert!(told.contains("4,294,967,295, which stands for that many or more"));
+    for subcommand in ["decode", "line"] {
+        let told = folder.run(&[subcommand, "--help"]).told();
+        assert!(told.contains("  stty -F DEVICE 9600 raw -echo\n"), "{told}");
+    }
     let version = concat!("aes18 ", env!("CARGO_PKG_VERSION"), "\n");
     assert_eq!(folder.run(&["--version"]).told(), version);
 }

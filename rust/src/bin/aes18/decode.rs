@@ -18,7 +18,7 @@ use crate::circuits;
 use crate::error::Error;
 use crate::frames;
 use crate::input::Input;
-use crate::output::Unread;
+use crate::output::{say_raw, Unread};
 use counts::Counts;
 use folder::Folder;
 use format::{Format, Told, Unit};
@@ -81,7 +81,19 @@ bits, and --json the members byte and bytes. A frame is dropped without a
 notice if its FCS is wrong, if its packet is outside 2 to 19 bytes or if its
 escape is followed by a flag. So there is no Spoilt, and in its place the
 totals have Dropped: how often the bytes between two flags gave no packet.
-Bytes before the first flag are skipped.
+Bytes before the first flag and behind the last give no packet either, such as
+a last frame whose closing flag is missing; the totals say how many there are,
+with --json in the members before and behind. Where there is no flag all bytes
+are before the first.
+
+A serial device as LINE has to be in raw mode first, or it changes bytes: 0D
+becomes 0A, 11 and 13 are taken as flow control, and so on. With the device's
+speed in place of 9600:
+
+  stty -F DEVICE 9600 raw -echo
+
+Where LINE is a terminal, as such a device is, a note on the standard error says
+that it must be raw; it is read all the same.
 
 Where the standard error is a terminal and the standard output is not, a bar
 shows how far a long reading has come.
@@ -103,6 +115,9 @@ pub fn run(args: Args) -> Result<(), Error> {
     let request = Request::parse(args)?;
     let receiver = circuits::receiver(&request.circuits)?;
     let mut input = Input::open(&request.file)?;
+    if request.line && input.is_terminal() {
+        say_raw(input.name());
+    }
     let folder = request.messages.as_deref().map(Folder::open).transpose()?;
     let stdout: Box<dyn Write> = match folder {
         Some(_) => Box::new(Unread(io::stdout().lock())),
@@ -215,7 +230,7 @@ impl Decoder {
             let read = self.line.read(bytes);
             bytes = &bytes[read.bytes..];
             self.counts.read += read.bytes as u64;
-            self.counts.dropped = self.line.dropped();
+            self.counts.rest = self.line.rest();
             match read.packet {
                 Some(packet) => self.read_packet(&packet)?,
                 None => return Ok(()),

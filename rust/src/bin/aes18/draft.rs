@@ -2,11 +2,12 @@
 
 use std::ffi::{OsStr, OsString};
 use std::fs::{self, File};
-use std::io::{self, BufWriter, Seek, Write};
+use std::io::{self, BufWriter, IsTerminal, Seek, Write};
 use std::path::{Path, PathBuf};
 use std::{env, process};
 
 use crate::error::Error;
+use crate::output::say_raw;
 
 /// A file under a name of its own until it is finished. What stood in its place stays until then, and a draft that is dropped is gone.
 pub struct Draft {
@@ -15,6 +16,8 @@ pub struct Draft {
     target: Target,
     /// The target's name, for messages.
     name: String,
+    /// Whether it is a serial line.
+    serial: bool,
 }
 
 /// Where the bytes go in the end.
@@ -47,7 +50,15 @@ impl Draft {
             file: BufWriter::new(file),
             target,
             name,
+            serial: false,
         })
+    }
+
+    /// A draft of a serial line: a terminal that gets it is said to have to be raw.
+    pub fn serial(name: &OsStr) -> Result<Draft, Error> {
+        let mut draft = Draft::new(name)?;
+        draft.serial = true;
+        Ok(draft)
     }
 
     /// The name of what is written, for messages.
@@ -64,12 +75,24 @@ impl Draft {
             Target::Stream(path) => File::options()
                 .write(true)
                 .open(path)
-                .and_then(|mut stream| copy(self.file.get_ref(), &mut stream))
+                .and_then(|stream| self.copy_to(stream))
                 .map_err(failed)?,
-            Target::Stdout => copy(self.file.get_ref(), &mut io::stdout().lock())
+            Target::Stdout => self
+                .copy_to(io::stdout().lock())
                 .map_err(|error| Error::stdout(&error))?,
         }
         Ok(length)
+    }
+
+    /// Copies the bytes to a device, a pipe or the standard output.
+    fn copy_to(&self, mut stream: impl Write + IsTerminal) -> io::Result<()> {
+        if self.serial && stream.is_terminal() {
+            say_raw(&self.name);
+        }
+        let mut file = self.file.get_ref();
+        file.rewind()?;
+        io::copy(&mut file, &mut stream)?;
+        stream.flush()
     }
 }
 
@@ -86,13 +109,6 @@ fn write_over(file: &mut BufWriter<File>, first: &[u8]) -> io::Result<u64> {
     file.write_all(first)?;
     file.flush()?;
     Ok(length)
-}
-
-/// Copies a file's bytes.
-fn copy(mut file: &File, stream: &mut dyn Write) -> io::Result<()> {
-    file.rewind()?;
-    io::copy(&mut file, stream)?;
-    stream.flush()
 }
 
 impl Target {

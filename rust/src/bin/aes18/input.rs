@@ -2,7 +2,7 @@
 
 use std::ffi::OsStr;
 use std::fs::File;
-use std::io::{self, Read};
+use std::io::{self, IsTerminal, Read};
 
 use crate::error::Error;
 
@@ -13,6 +13,7 @@ const CHUNK: usize = 64 * 1024;
 pub struct Input {
     name: String,
     source: Box<dyn Read>,
+    terminal: bool,
     length: Option<u64>,
     buffer: Vec<u8>,
 }
@@ -21,11 +22,7 @@ impl Input {
     /// Opens a file, or the standard input where the name is `-`.
     pub fn open(path: &OsStr) -> Result<Input, Error> {
         if path == "-" {
-            return Ok(Input::of(
-                "standard input".to_string(),
-                Box::new(io::stdin()),
-                None,
-            ));
+            return Ok(Input::of("standard input".to_string(), io::stdin(), None));
         }
         let name = path.to_string_lossy().into_owned();
         let file = File::open(path).map_err(|error| Error::file(&name, &error))?;
@@ -38,13 +35,14 @@ impl Input {
             )));
         }
         let length = metadata.is_file().then_some(metadata.len());
-        Ok(Input::of(name, Box::new(file), length))
+        Ok(Input::of(name, file, length))
     }
 
-    fn of(name: String, source: Box<dyn Read>, length: Option<u64>) -> Input {
+    fn of(name: String, source: impl Read + IsTerminal + 'static, length: Option<u64>) -> Input {
         Input {
             name,
-            source,
+            terminal: source.is_terminal(),
+            source: Box::new(source),
             length,
             buffer: vec![0; CHUNK],
         }
@@ -53,6 +51,11 @@ impl Input {
     /// The file's name, for messages.
     pub fn name(&self) -> &str {
         &self.name
+    }
+
+    /// Whether it is a terminal.
+    pub fn is_terminal(&self) -> bool {
+        self.terminal
     }
 
     /// The file's length in bytes, where it is known beforehand.

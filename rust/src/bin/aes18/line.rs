@@ -33,9 +33,18 @@ Every packet is written, whatever its circuit: copies, system packets and
 malformed ones too. A spoilt frame is not; aes18 decode --line tells what was
 lost with it as aes18 decode does.
 
-LINE is written when all bits are read; where anything is wrong nothing is
-written. How many packets and bytes were written, and how many spoilt frames
-were left out, is told on the standard error.
+A serial device as LINE has to be in raw mode first, or it changes bytes: 0A
+becomes 0D 0A, and so on. With the device's speed in place of 9600:
+
+  stty -F DEVICE 9600 raw -echo
+
+Where LINE is a terminal, as such a device is, a note on the standard error says
+that it must be raw; it is written all the same.
+
+LINE is written when all bits are read, and not at all where that goes wrong.
+If writing goes wrong, a file stays as it was, and a device, a pipe or the
+standard output may have got a part. How many packets and bytes were written,
+and how many spoilt frames were left out, is told on the standard error.
 Exit status: 0; 1 for a file that cannot be read or written; 2 for wrong usage.
 ";
 
@@ -52,7 +61,7 @@ struct Request {
 pub fn run(args: Args) -> Result<(), Error> {
     let request = Request::parse(args)?;
     let mut input = Input::open(&request.bits)?;
-    let mut draft = Draft::new(&request.line)?;
+    let mut draft = Draft::serial(&request.line)?;
     let mut lining = Lining::new(input.name())?;
     while let Some(bytes) = input.chunk()? {
         let frames = lining.read(bytes)?;

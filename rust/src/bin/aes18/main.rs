@@ -59,6 +59,7 @@ aes18: messages in the user bits of AES3 audio (AES18)
 Usage:
   aes18 encode PLAN -o BITS                     make user bits by a plan
   aes18 decode --circuits ADDR[:EXT],.. BITS    tell what is in filed user bits
+  aes18 decode --line --circuits .. LINE        tell what is on a serial line
   aes18 show --circuits ADDR[:EXT],.. BITS      look at filed user bits
   aes18 line BITS -o LINE                       write packets as a serial line
   aes18 SUBCOMMAND --help                       say more of a subcommand

@@ -14,6 +14,13 @@ pub fn say(line: &str) {
     let _ = writeln!(io::stderr(), "{line}");
 }
 
+/// Says that the terminal of that name, which a serial line goes to or comes from, must be in raw mode.
+pub fn say_raw(name: &str) {
+    say(&format!(
+        "aes18: note: {name} is a terminal; it must be in raw mode (stty raw -echo), or it changes bytes of the line"
+    ));
+}
+
 /// A number with what it counts: `1 block`, `2 blocks`.
 pub fn count(number: u64, what: &str) -> String {
     let plural = if number == 1 { "" } else { "s" };

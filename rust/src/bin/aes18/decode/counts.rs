@@ -3,6 +3,7 @@
 use aes18::{Circuit, Fate, Figures, Notice, Totals};
 
 use super::format::Unit;
+use super::line::Rest;
 
 /// Counts over all notices.
 pub struct Counts {
@@ -11,8 +12,8 @@ pub struct Counts {
     pub read: u64,
     pub system: u64,
     spoilt: u64,
-    /// What a serial line had between two flags that was no packet.
-    pub dropped: u64,
+    /// What gave no packet on a serial line; none of user bits.
+    pub rest: Rest,
     pub malformed: u64,
     pub elsewhere: u64,
     /// What the totals do not have of each circuit, by number.
@@ -37,7 +38,7 @@ impl Counts {
             read: 0,
             system: 0,
             spoilt: 0,
-            dropped: 0,
+            rest: Rest::default(),
             malformed: 0,
             elsewhere: 0,
             circuits: circuits.iter().copied().map(Packets::new).collect(),
@@ -62,7 +63,7 @@ impl Counts {
     pub fn damaged(&self) -> (&'static str, u64) {
         match self.unit {
             Unit::Bit => ("Spoilt", self.spoilt),
-            Unit::Byte => ("Dropped", self.dropped),
+            Unit::Byte => ("Dropped", self.rest.dropped),
         }
     }
 

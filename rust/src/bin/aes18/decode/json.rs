@@ -6,7 +6,8 @@ use std::io::{self, Write};
 use aes18::{Figures, Notice};
 
 use super::counts::{Counts, Packets};
-use super::format::{fate_name, Format, Told};
+use super::format::{fate_name, Format, Told, Unit};
+use super::line::Rest;
 use crate::quote::{as_text, Hex};
 
 /// An object for each notice, then one with the counts.
@@ -40,12 +41,15 @@ impl Format for Json {
     }
 
     fn counts(&self, out: &mut dyn Write, counts: &Counts) -> io::Result<()> {
+        write!(out, r#"{{"totals":{{"{}s":{}"#, counts.unit, counts.read)?;
+        if counts.unit == Unit::Byte {
+            let Rest { before, behind, .. } = counts.rest;
+            write!(out, r#","before":{before},"behind":{behind}"#)?;
+        }
         let (damaged, number) = counts.damaged();
         write!(
             out,
-            r#"{{"totals":{{"{}s":{},"system":{},"{}":{number},"malformed":{},"elsewhere":{},"circuits":["#,
-            counts.unit,
-            counts.read,
+            r#","system":{},"{}":{number},"malformed":{},"elsewhere":{},"circuits":["#,
             counts.system,
             damaged.to_ascii_lowercase(),
             counts.malformed,

@@ -4,17 +4,29 @@ use aes18::{LineRead, LineReader};
 
 use crate::frames::FLAG;
 
-/// The library's reader, and what it dropped.
+/// The library's reader, and what gave it no packet.
 #[derive(Default)]
 pub struct Line {
     reader: LineReader,
     /// Whether a flag was read.
     inside: bool,
-    /// Whether a byte other than a flag was read since.
-    filled: bool,
+    /// Bytes before the first flag, and bytes behind the last.
+    before: u64,
+    behind: u64,
     /// How often bytes stood between two flags, and how many of them were packets.
     closed: u64,
     packets: u64,
+}
+
+/// What gave no packet.
+#[derive(Clone, Copy, Debug, Default, PartialEq, Eq)]
+pub struct Rest {
+    /// Bytes before the first flag: all where there is none.
+    pub before: u64,
+    /// How often bytes stood between two flags that gave no packet.
+    pub dropped: u64,
+    /// Bytes behind the last flag.
+    pub behind: u64,
 }
 
 impl Line {
@@ -28,17 +40,25 @@ impl Line {
         read
     }
 
-    /// How often bytes stood between two flags that gave no packet.
-    pub fn dropped(&self) -> u64 {
-        self.closed - self.packets
+    /// What gave no packet in the bytes read so far.
+    pub fn rest(&self) -> Rest {
+        Rest {
+            before: self.before,
+            dropped: self.closed - self.packets,
+            behind: self.behind,
+        }
     }
 
     fn follow(&mut self, byte: u8) {
         if byte == FLAG {
-            self.closed += u64::from(self.inside && self.filled);
+            self.closed += u64::from(self.behind > 0);
             self.inside = true;
+            self.behind = 0;
+        } else if self.inside {
+            self.behind += 1;
+        } else {
+            self.before += 1;
         }
-        self.filled = byte != FLAG;
     }
 }
 
@@ -47,8 +67,8 @@ mod tests {
     use super::*;
     use crate::frames::on_line;
 
-    /// Reads a line given in parts: its packets, and how many times bytes were dropped.
-    fn read(parts: &[&[u8]]) -> (Vec<Vec<u8>>, u64) {
+    /// Reads a line given in parts: its packets, and what gave none, as bytes before the first flag, times dropped and bytes behind the last flag.
+    fn read(parts: &[&[u8]]) -> (Vec<Vec<u8>>, [u64; 3]) {
         let mut line = Line::default();
         let mut packets = Vec::new();
         for part in parts {
@@ -62,26 +82,30 @@ mod tests {
                 at += bytes;
             }
         }
-        (packets, line.dropped())
+        let rest = line.rest();
+        (packets, [rest.before, rest.dropped, rest.behind])
     }
 
     /// Bytes before the first flag and none between two are nothing that is dropped, nor are those behind the last flag.
     #[test]
-    fn what_is_dropped() {
-        let cases: [(&[u8], u64); 10] = [
-            (b"", 0),
-            (b"before", 0),
-            (b"before~", 0),
-            (b"~~~~", 0),
-            (b"~behind", 0),
-            (b"~no FCS~", 1),
-            (b"~no FCS~~~none~", 2),
-            (b"~a flag}~", 1),
-            (b"~}~", 1),
-            (b"~\0\0~", 1),
+    fn what_gives_no_packet() {
+        let cases: [(&[u8], [u64; 3]); 13] = [
+            (b"", [0, 0, 0]),
+            (b"before", [6, 0, 0]),
+            (b"before~", [6, 0, 0]),
+            (b"before~}behind", [6, 0, 7]),
+            (b"~~~~", [0, 0, 0]),
+            (b"~behind", [0, 0, 6]),
+            (b"~~behind}", [0, 0, 7]),
+            (b"~no FCS~", [0, 1, 0]),
+            (b"~no FCS~~~none~", [0, 2, 0]),
+            (b"}~no FCS~behind", [1, 1, 6]),
+            (b"~a flag}~", [0, 1, 0]),
+            (b"~}~", [0, 1, 0]),
+            (b"~\0\0~", [0, 1, 0]),
         ];
-        for (line, dropped) in cases {
-            assert_eq!(read(&[line]), (Vec::new(), dropped), "{line:?}");
+        for (line, rest) in cases {
+            assert_eq!(read(&[line]), (Vec::new(), rest), "{line:?}");
         }
     }
 
@@ -94,10 +118,10 @@ mod tests {
             &frames[0][..],
             b"~short~",
             &frames[1],
-            b"}~",
+            b"}~last",
         ]
         .concat();
-        let expected = (vec![first.to_vec(), second.to_vec()], 3);
+        let expected = (vec![first.to_vec(), second.to_vec()], [7, 3, 4]);
         for cut in 0..=line.len() {
             let (start, end) = line.split_at(cut);
             assert_eq!(read(&[start, end]), expected, "{cut}");

@@ -5,7 +5,8 @@ use std::io::{self, Write};
 use aes18::{Figures, Notice};
 
 use super::counts::{Counts, Packets};
-use super::format::{fate_name, Format, Told};
+use super::format::{fate_name, Format, Told, Unit};
+use super::line::Rest;
 use crate::quote::Quoted;
 
 /// A line for each notice, then a table.
@@ -44,11 +45,19 @@ impl Format for Text {
         for (packets, figures) in counts.circuits() {
             writeln!(out, "{}", row(packets, figures))?;
         }
+        write!(out, "{}s read {}", counts.unit, counts.read)?;
+        if counts.unit == Unit::Byte {
+            let Rest { before, behind, .. } = counts.rest;
+            write!(
+                out,
+                ", before the first flag {before}, behind the last {behind}"
+            )?;
+        }
         let (damaged, number) = counts.damaged();
         writeln!(
             out,
-            "{}s read {}; System {}, {damaged} {number}, Malformed {}, Elsewhere {}",
-            counts.unit, counts.read, counts.system, counts.malformed, counts.elsewhere
+            "; System {}, {damaged} {number}, Malformed {}, Elsewhere {}",
+            counts.system, counts.malformed, counts.elsewhere
         )
     }
 }
