@@ -14,10 +14,10 @@ use Rattle.layout.specs.Layout.{lowBytes, numberAt}
 use Rattle.layout.proofs.Parts.{number-unpacks, number-after, length-lowBytes}
 use Rattle.serial.specs.declared.Written.the-variants.{Frame, Refused}
 use Rattle.serial.specs.Octets.{lineFrame, fits}
-use Rattle.serial.specs.Writing.{worstCase, outputAfter, bytesOf, sent, packetsSent}
+use Rattle.serial.specs.Writing.{worstCase, outputAfter, bytesWritten, sent, packetsSent}
 use Rattle.serial.specs.Writing as serial
 use Rattle.serial.specs.Frames.{packetsIn}
-use Rattle.serial.specs.Machine.{fresh, reading, packetOf, packetsRead, bytesRead}
+use Rattle.serial.specs.Machine.{fresh, reading, packetGiven, packetsRead, bytesRead}
 use Rattle.serial.proofs.Stepping.{reading-length}
 use Rattle.serial.proofs.Writes.{write-cases}
 use Rattle.serial.proofs.ReadBack.{length-lineFrame, writes-read}
@@ -49,8 +49,8 @@ module _ (p line answer : List ℕ) where
   unfolding lineWriteAnswered noRoom
   put-roomless e = rw (lt-ltb (length answer) lineWriteLength (leb-false lineWriteLength (length answer) e))
 
-  put-room : leb lineWriteLength (length answer) ≡ true → Put ≡ bytesOf (serial.writeAnswer p line) (outputAfter p line)
-  unfolding lineWriteAnswered lineWriteAnswer lineWritten serial.writeAnswer outputAfter bytesOf worstCase
+  put-room : leb lineWriteLength (length answer) ≡ true → Put ≡ bytesWritten (serial.writeAnswer p line) (outputAfter p line)
+  unfolding lineWriteAnswered lineWriteAnswer lineWritten serial.writeAnswer outputAfter bytesWritten worstCase
   put-room e =
       let room : lineWriteLength ≤ length answer = leb-true lineWriteLength (length answer) e in
       rw (le-ltb (length answer) lineWriteLength room)
@@ -59,7 +59,7 @@ module _ (p line answer : List ℕ) where
       cond (eqb n 0)
       (take (numberAt 8 (cond (eqb n 0) (sets answer 0 (lineWriteBytes (length (lineFrame p)))) answer) 0)
       (cond (eqb n 0) (cond (eqb n 0) (sets line 0 (lineFrame p)) line) line)) []
-      ≡ bytesOf (cond (eqb n 0) (Frame (length (lineFrame p))) (Refused n)) (cond (eqb n 0) (sets line 0 (lineFrame p)) line))
+      ≡ bytesWritten (cond (eqb n 0) (Frame (length (lineFrame p))) (Refused n)) (cond (eqb n 0) (sets line 0 (lineFrame p)) line))
       (λ f h. ap (λ (n : ℕ). take n (sets line 0 (lineFrame p))) (write-told (length (lineFrame p)) answer room (short f)))
       refl refl)
     where
@@ -114,8 +114,8 @@ module _ (bytes line place answer : List ℕ) (h : lineLength ≤ length bytes) 
     unfolding lineReadAnswered
     accepted = rw (le-ltb (length bytes) lineLength h, le-ltb (length place) packetLength p, le-ltb (length answer) lineReadLength a)
 
-    given-room : Given bytes line place answer ≡ packetOf (reading (lineIn bytes) line)
-    unfolding lineReadAnswer lineReadPacket packetOfLength packetOf
+    given-room : Given bytes line place answer ≡ packetGiven (reading (lineIn bytes) line)
+    unfolding lineReadAnswer lineReadPacket packetOfLength packetGiven
     given-room =
         let r = reading (lineIn bytes) line in
         let short : r .length ≤ 19 = reading-length (lineIn bytes) line in
@@ -154,7 +154,7 @@ module _ (bytes line place answer : List ℕ) (h : lineLength ≤ length bytes) 
 
 -- what a call gives and leaves, as a call of document 02 or as none
 record LineCarried (bytes : List ℕ) (c : LentLineRead) (has : Bool) : Type 0 where
-  pub given : Given bytes (c .line) (c .packet) (c .answer) ≡ cond has (packetOf (reading (lineIn bytes) (c .line))) []
+  pub given : Given bytes (c .line) (c .packet) (c .answer) ≡ cond has (packetGiven (reading (lineIn bytes) (c .line))) []
   pub left : lineIn (lineReadRecord bytes (c .line) (c .packet) (c .answer)) ≡ cond has (reading (lineIn bytes) (c .line) .line) (lineIn bytes)
 
 line-call-carried : (bytes : List ℕ) → lineLength ≤ length bytes → (c : LentLineRead) → LineCarried bytes c (lineReadHasRoom c)

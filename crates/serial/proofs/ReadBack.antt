@@ -14,7 +14,7 @@ use Rattle.hdlc.specs.Bodies.{packet}
 use Rattle.hdlc.proofs.WithFcs.{length-withFcs, packet-withFcs, fcsRight-withFcs}
 use Rattle.serial.specs.declared.Written.the-variants.{Frame, Refused}
 use Rattle.serial.specs.Octets.{flag, escapedBytes, lineFrame, lineOf, fits}
-use Rattle.serial.specs.Writing.{worstCase, writeAnswer, outputAfter, WriteCall, bytesOf, sent, packetsSent}
+use Rattle.serial.specs.Writing.{worstCase, writeAnswer, outputAfter, WriteCall, bytesWritten, sent, packetsSent}
 use Rattle.serial.specs.Frames.{hasFlag, pieces, between, unescapedFrom, unescaped, passing, given, packetsIn}
 use Rattle.serial.specs.SerialLine.{allFit}
 use Rattle.serial.proofs.Escaping.{length-escapedBytes}
@@ -86,13 +86,13 @@ record Line-of (line : List ℕ) (ps : List (List ℕ)) : Type 0 where
   pub fit : allFit ps ≡ true
 
 sent-line : (cs : List WriteCall) → Line-of (sent cs) (packetsSent cs)
-unfolding sent packetsSent writeAnswer outputAfter bytesOf lineOf allFit flatten
+unfolding sent packetsSent writeAnswer outputAfter bytesWritten lineOf allFit flatten
 sent-line [] = record { is = refl; fit = refl }
 sent-line (c ∷ cs) =
     let rest = sent-line cs in
     write-cases (c .packet) (c .output)
     (λ n. Line-of
-    (bytesOf (cond (eqb n 0) (Frame (length (lineFrame (c .packet)))) (Refused n)) (cond (eqb n 0) (sets (c .output) 0 (lineFrame (c .packet))) (c .output)) ++ sent cs)
+    (bytesWritten (cond (eqb n 0) (Frame (length (lineFrame (c .packet)))) (Refused n)) (cond (eqb n 0) (sets (c .output) 0 (lineFrame (c .packet))) (c .output)) ++ sent cs)
     (cond (eqb n 0) (c .packet ∷ packetsSent cs) (packetsSent cs)))
     (λ f h. record { is = rw (bytes-written (c .packet) (c .output) h, rest .is); fit = rw (f, rest .fit) })
     rest

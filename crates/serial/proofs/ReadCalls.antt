@@ -12,7 +12,7 @@ use Rattle.serial.specs.declared.Line.{Line}
 use Rattle.serial.specs.declared.Reading.{Reading}
 use Rattle.serial.specs.Octets.{isFlag}
 use Rattle.serial.specs.Frames.{packetsIn}
-use Rattle.serial.specs.Machine.{fresh, opened, step, passes, ended, stopped, readOn, reading, packetOf, packetsRead, bytesRead, lineAfter}
+use Rattle.serial.specs.Machine.{fresh, opened, step, passes, ended, stopped, readOn, reading, packetGiven, packetsRead, bytesRead, lineAfter}
 use Rattle.serial.specs.SerialLine.{callsFor, callsOver, standsFor}
 use Rattle.serial.proofs.Stepping.{step-flag, passes-least}
 use Rattle.serial.proofs.Giving.{gives, givenIn, run, step-long, given-declared}
@@ -33,12 +33,12 @@ record Read (l : Line) (n : ℕ) (bs : List ℕ) (r : Reading) : Type 0 where
   pub read : r .read ≡ n + k
   pub within : k ≤ length bs
   pub line : r .line ≡ run l (take k bs)
-  pub packets : packetOf r ≡ givenIn l (take k bs)
+  pub packets : packetGiven r ≡ givenIn l (take k bs)
   pub before : (j : ℕ) → j < k → givenIn l (take j bs) ≡ []
-  pub all : packetOf r ≡ [] → k ≡ length bs
+  pub all : packetGiven r ≡ [] → k ≡ length bs
 
 reads-ended : (l : Line) (n : ℕ) → Read l n [] (ended l n)
-unfolding ended packetOf givenIn run
+unfolding ended packetGiven givenIn run
 reads-ended l n =
     record {
       k = 0;
@@ -53,10 +53,10 @@ reads-ended l n =
 module _ (l : Line) (n : ℕ) (b : ℕ) (bs : List ℕ) where
   -- the byte is a flag that gives a packet
   reads-stopped : isFlag b ≡ true → passes l ≡ true → Read l n (b ∷ bs) (stopped l (suc n))
-  unfolding stopped packetOf givenIn run gives
+  unfolding stopped packetGiven givenIn run gives
   reads-stopped f h =
       let some : l .count - 2 ≡ 0 → ⊥ = λ e. omega (arith, passes-least l h) in
-      let one : packetOf (stopped l (suc n)) ≡ take (l .count - 2) (l .bytes) ∷ [] = rw (ne-eqb (l .count - 2) 0 some) in
+      let one : packetGiven (stopped l (suc n)) ≡ take (l .count - 2) (l .bytes) ∷ [] = rw (ne-eqb (l .count - 2) 0 some) in
       record {
         k = 1;
         read = omega arith;
@@ -128,16 +128,16 @@ module _ (l : Line) (bs : List ℕ) where
   line-read : reading l bs .line ≡ run l (take (reading l bs .read) bs)
   line-read = of-call .line ∙ ap (λ (n : ℕ). run l (take n bs)) (sym read-k)
 
-  packets-read : packetOf (reading l bs) ≡ givenIn l (take (reading l bs .read) bs)
+  packets-read : packetGiven (reading l bs) ≡ givenIn l (take (reading l bs .read) bs)
   packets-read = of-call .packets ∙ ap (λ (n : ℕ). givenIn l (take n bs)) (sym read-k)
 
-  pub all-read : packetOf (reading l bs) ≡ [] → reading l bs .read ≡ length bs
+  pub all-read : packetGiven (reading l bs) ≡ [] → reading l bs .read ≡ length bs
   all-read e = read-k ∙ of-call .all e
 
   fewer-none : (n : ℕ) → n < reading l bs .read → givenIn l (take n bs) ≡ []
   fewer-none n h = of-call .before n (rw read-k at h)
 
-pub first-read : (l : Line) (bs : List ℕ) (n : ℕ) → n < reading l bs .read → packetOf (reading l (take n bs)) ≡ []
+pub first-read : (l : Line) (bs : List ℕ) (n : ℕ) → n < reading l bs .read → packetGiven (reading l (take n bs)) ≡ []
 first-read l bs n h =
     let m = reading l (take n bs) .read in
     let few : m ≤ n = omega (arith, read-within l (take n bs), length-take n bs) in
@@ -176,7 +176,7 @@ some-read l b bs = go (reading l (b ∷ bs) .read) refl
   where
     go : (n : ℕ) → reading l (b ∷ bs) .read ≡ n → 1 ≤ n
     go zero e =
-        let none : packetOf (reading l (b ∷ bs)) ≡ [] = packets-read l (b ∷ bs) ∙ ap (λ (n : ℕ). givenIn l (take n (b ∷ bs))) e in
+        let none : packetGiven (reading l (b ∷ bs)) ≡ [] = packets-read l (b ∷ bs) ∙ ap (λ (n : ℕ). givenIn l (take n (b ∷ bs))) e in
         absurd (omega (arith, all-read l (b ∷ bs) none))
     go (suc n) e = omega arith
 

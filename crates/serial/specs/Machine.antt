@@ -59,15 +59,15 @@ unfoldable pub reading : Line → List ℕ → Reading
 reading l bs = readOn l 0 bs
 
 -- the packet that an answer has, one or none
-unfoldable pub packetOf : Reading → List (List ℕ)
-packetOf r = cond (eqb (r .length) 0) [] (take (r .length) (r .frame) ∷ [])
+unfoldable pub packetGiven : Reading → List (List ℕ)
+packetGiven r = cond (eqb (r .length) 0) [] (take (r .length) (r .frame) ∷ [])
 
 -- ---- lists of reading calls, each lent some bytes, from one record on
 
 -- the packets that they give
 unfoldable pub packetsRead : Line → List (List ℕ) → List (List ℕ)
 packetsRead l [] = []
-packetsRead l (bs ∷ calls) = let r = reading l bs in packetOf r ++ packetsRead (r .line) calls
+packetsRead l (bs ∷ calls) = let r = reading l bs in packetGiven r ++ packetsRead (r .line) calls
 
 -- the bytes that they read, joined
 unfoldable pub bytesRead : Line → List (List ℕ) → List ℕ

@@ -13,7 +13,7 @@ use Rattle.serial.specs.declared.Line.{Line}
 use Rattle.serial.specs.Octets.{flag, escape, escapedBytes, lineFrame, lineOf, fits}
 use Rattle.serial.specs.Writing.{worstCase, WriteCall, sent, packetsSent}
 use Rattle.serial.specs.Frames.{hasFlag, unescaped, packetsIn}
-use Rattle.serial.specs.Machine.{fresh, reading, packetOf, packetsRead, bytesRead, lineAfter}
+use Rattle.serial.specs.Machine.{fresh, reading, packetGiven, packetsRead, bytesRead, lineAfter}
 
 -- each is a packet of 2 to 19 bytes
 unfoldable pub allFit : List (List ℕ) → Bool
@@ -75,8 +75,8 @@ pub record SerialLine : Type 0 where
   -- and whatever its calls are lent: in the bytes that they read
   pub reads : (calls : List (List ℕ)) → packetsRead fresh calls ≡ packetsIn (bytesRead fresh calls)
   -- a call without a packet reads every byte, and one with a packet stops right behind the flag that gives it
-  pub allRead : (l : Line) (bs : List ℕ) → packetOf (reading l bs) ≡ [] → reading l bs .read ≡ length bs
-  pub firstRead : (l : Line) (bs : List ℕ) (n : ℕ) → n < reading l bs .read → packetOf (reading l (take n bs)) ≡ []
+  pub allRead : (l : Line) (bs : List ℕ) → packetGiven (reading l bs) ≡ [] → reading l bs .read ≡ length bs
+  pub firstRead : (l : Line) (bs : List ℕ) (n : ℕ) → n < reading l bs .read → packetGiven (reading l (take n bs)) ≡ []
   -- what is written, cut and read is the packets that were not refused
   pub across : (cs : List WriteCall) (chunks : List (List ℕ)) → flatten chunks ≡ sent cs → packetsRead fresh (callsOver fresh chunks) ≡ packetsSent cs
   -- a reader in any record goes on as behind the line that it stands for

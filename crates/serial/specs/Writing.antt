@@ -33,14 +33,14 @@ pub record WriteCall : Type 0 where
   pub output : List ℕ
 
 -- the bytes that an answer says are written
-unfoldable pub bytesOf : Written → List ℕ → List ℕ
-bytesOf (Frame n) output = take n output
-bytesOf (Refused k) output = []
+unfoldable pub bytesWritten : Written → List ℕ → List ℕ
+bytesWritten (Frame n) output = take n output
+bytesWritten (Refused k) output = []
 
 -- what calls put on the line: each the bytes that it wrote
 unfoldable pub sent : List WriteCall → List ℕ
 sent [] = []
-sent (c ∷ cs) = bytesOf (writeAnswer (c .packet) (c .output)) (outputAfter (c .packet) (c .output)) ++ sent cs
+sent (c ∷ cs) = bytesWritten (writeAnswer (c .packet) (c .output)) (outputAfter (c .packet) (c .output)) ++ sent cs
 
 -- the packets of the calls that are not refused
 unfoldable pub packetsSent : List WriteCall → List (List ℕ)
