@@ -2,7 +2,8 @@
 the proved crates is used for it. Arguments: the tool, and the C header with the good FCS.
 
 pppdump reads the record file of pppd and prints each frame's packet, without the FCS, 16 bytes on a line; behind a packet whose FCS is wrong stands the line
-BAD FCS, and before one whose escape is followed by a flag the line aborted packet. It has no opinion on a packet's length.
+BAD FCS, and before one whose escape is followed by a flag the line aborted packet. Two bytes or fewer with the FCS it calls short; of
+other lengths it has no opinion.
 """
 import copy
 import json

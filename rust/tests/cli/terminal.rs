@@ -1,4 +1,4 @@
-//! A serial line to a terminal and from one. Where the machine has no terminal to open, nothing is tested here.
+//! A serial line to a terminal and from one. `tests/terminal` runs these where a terminal can be opened, and says so where none can.
 
 use std::fs::File;
 use std::io::{BufRead, BufReader, IsTerminal};
@@ -9,10 +9,12 @@ use super::line::folder;
 /// Each opening of this device is a terminal of its own.
 const TERMINAL: &str = "/dev/ptmx";
 
-/// A terminal, if there is one.
-fn terminal() -> Option<File> {
+/// A terminal.
+fn terminal() -> File {
     let opened = File::options().read(true).write(true).open(TERMINAL);
-    opened.ok().filter(File::is_terminal)
+    let terminal = opened.expect(TERMINAL);
+    assert!(terminal.is_terminal());
+    terminal
 }
 
 /// What is said of a terminal of that name.
@@ -22,10 +24,9 @@ fn note(name: &str) -> String {
 
 /// The note comes before the summary, and the status stays 0.
 #[test]
+#[ignore = "needs a terminal: tests/terminal"]
 fn a_line_to_a_terminal() {
-    let Some(terminal) = terminal() else {
-        return;
-    };
+    let terminal = terminal();
     let folder = folder("line-to-terminal");
     let summary = "8 packets, 135 bytes; spoilt frames left out: 0\n";
     let ran = folder.run(&["line", "bits", "-o", TERMINAL]);
@@ -43,10 +44,9 @@ fn a_line_to_a_terminal() {
 
 /// The note comes before the first byte, for which the program waits here: nobody sends one.
 #[test]
+#[ignore = "needs a terminal: tests/terminal"]
 fn a_line_from_a_terminal() {
-    let Some(terminal) = terminal() else {
-        return;
-    };
+    let terminal = terminal();
     let folder = folder("line-from-terminal");
     let cases = [
         ("-", "standard input", Stdio::from(terminal)),
@@ -71,10 +71,9 @@ fn a_line_from_a_terminal() {
 
 /// Only a serial line has to be raw.
 #[test]
+#[ignore = "needs a terminal: tests/terminal"]
 fn user_bits_to_a_terminal() {
-    let Some(terminal) = terminal() else {
-        return;
-    };
+    let terminal = terminal();
     let folder = folder("bits-to-terminal");
     let child = folder
         .command(&["encode", "plan", "-o", "-"])
