@@ -4,7 +4,7 @@ mod decode;
 mod encode;
 // Made by hand as for the library's tests, of which not all is needed here.
 #[allow(dead_code)]
-#[path = "../library/frames.rs"]
+#[path = "../../../rust/tests/library/frames.rs"]
 mod frames;
 mod json;
 mod line;
