@@ -4,3 +4,4 @@ pub mod SenderOutcomes
 pub mod ReceiverOutcomes
 pub mod TotalsOutcomes
 pub mod LineOutcomes
+pub mod FramingOutcomes

@@ -8,7 +8,7 @@ use borrow.Author.Tests.{lt-ltb, le-ltb, eqb-true}
 use lib.ListN.{length, take}
 use lib.Seq.{sets}
 use lib.Dec.{eqb}
-use Rattle.layout.specs.Layout.{lowBytes}
+use Rattle.layout.specs.Layout.{lowBytes, packetLength}
 use Rattle.serial.specs.declared.Written.{Written}
 use Rattle.serial.specs.declared.Written.the-variants.{Frame, Refused}
 use Rattle.serial.specs.declared.Reading.{Reading}
@@ -16,7 +16,7 @@ use Rattle.serial.specs.Octets.{lineFrame}
 use Rattle.serial.specs.Writing.{writeRefusal, outputAfter}
 use Rattle.serial.specs.Writing as serial
 use Rattle.serial.specs.Machine.{reading}
-use Rattle.serial_layout.specs.LineBytes.{lineLength, lineBytes, lineIn, packetLength, lineWriteLength, lineWriteBytes, lineReadLength, lineReadBytes}
+use Rattle.serial_layout.specs.LineBytes.{lineLength, lineBytes, lineIn, lineWriteLength, lineWriteBytes, lineReadLength, lineReadBytes}
 use Rattle.aes18.specs.Room.{noRoom}
 use Rattle.aes18.specs.LineCalls.{lineWriteAnswered, lineWritten, lineWriteAnswer, lineReadAnswered, lineReadRecord, lineReadPacket, lineReadAnswer}
 

@@ -4,3 +4,4 @@ pub mod SenderCalls
 pub mod ReceiverCalls
 pub mod TotalsCalls
 pub mod LineCalls
+pub mod FramingCalls

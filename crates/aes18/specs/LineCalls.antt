@@ -9,7 +9,8 @@ use lib.Dec.{ltb, eqb}
 use Rattle.serial.specs.Octets.{lineFrame}
 use Rattle.serial.specs.Writing.{writeRefusal, outputAfter}
 use Rattle.serial.specs.Machine.{reading}
-use Rattle.serial_layout.specs.LineBytes.{lineLength, lineBytes, lineIn, packetLength, lineWriteLength, lineWriteBytes, lineReadLength, lineReadBytes}
+use Rattle.layout.specs.Layout.{packetLength}
+use Rattle.serial_layout.specs.LineBytes.{lineLength, lineBytes, lineIn, lineWriteLength, lineWriteBytes, lineReadLength, lineReadBytes}
 use Rattle.aes18.specs.Room.{noRoom}
 
 -- ---- writing

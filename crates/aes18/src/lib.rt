@@ -1,5 +1,5 @@
-// The AES18 user-bit channel for C and Rust: the calls of document 01, pass totals and the serial line (document 02, asks 1 and 3), over records and answers
-// laid out in bytes (include/aes18.h).
+// The AES18 user-bit channel for C and Rust: the calls of document 01, pass totals and the serial line (document 02, asks 1 and 3), and reading with the
+// framing alone, over records and answers laid out in bytes (include/aes18.h).
 
 use layout::answer_number;
 use layout::clipped;
@@ -16,6 +16,7 @@ ghost use Rattle.aes18.specs.SenderCalls as sends;
 ghost use Rattle.aes18.specs.SenderCalls.{systemAsked};
 ghost use Rattle.aes18.specs.ReceiverCalls as receives;
 ghost use Rattle.aes18.specs.TotalsCalls.{noteAnswered, noteRecord};
+ghost use Rattle.aes18.specs.FramingCalls.{framingReadAnswered, framingReadRecord, framingReadPacket, framingReadAnswer};
 ghost use Rattle.aes18.specs.LineCalls.{lineWriteAnswered, lineWritten, lineWriteAnswer, lineReadAnswered, lineReadRecord, lineReadPacket, lineReadAnswer};
 
 // The answer where a record, a packet's place or an answer is shorter than it has to be.
@@ -226,7 +227,7 @@ pub extern "C" fn aes18_line_read(
     if record.len() < serial_layout::LENGTH {
         return NO_ROOM;
     }
-    if packet.len() < serial_layout::PACKET {
+    if packet.len() < layout::PACKET {
         return NO_ROOM;
     }
     if answer.len() < serial_layout::READ_ANSWER {
@@ -238,7 +239,34 @@ pub extern "C" fn aes18_line_read(
     let length = reading.length;
     let read = reading.read;
     serial_layout::put_line(record, after);
-    serial_layout::put_packet(packet, frame, length);
+    layout::put_packet(packet, frame, length);
     serial_layout::put_read_answer(answer, length, read);
     0
+}
+
+// The bits from number `from` up to `to` are read, with the framing alone, until the first body that passes or is spoilt.
+#[no_mangle]
+pub extern "C" fn aes18_framing_read(
+    framing: &mut [u8],
+    bits: &[u8],
+    from: u64,
+    to: u64,
+    packet: &mut [u8],
+    answer: &mut [u8],
+) -> u32
+    ensures { λ r. ⌜ (r ≡ framingReadAnswered (now (framing .entry)) (now (bits .entry)) from to (now (packet .entry)) (now (answer .entry)))
+        × (now (framing .exit) ≡ framingReadRecord (now (framing .entry)) (now (bits .entry)) from to (now (packet .entry)) (now (answer .entry)))
+        × (now (packet .exit) ≡ framingReadPacket (now (framing .entry)) (now (bits .entry)) from to (now (packet .entry)) (now (answer .entry)))
+        × (now (answer .exit) ≡ framingReadAnswer (now (framing .entry)) (now (bits .entry)) from to (now (packet .entry)) (now (answer .entry))) ⌝ }
+{
+    if framing.len() < framing_layout::LENGTH {
+        return NO_ROOM;
+    }
+    if packet.len() < layout::PACKET {
+        return NO_ROOM;
+    }
+    if answer.len() < framing_layout::ANSWER {
+        return NO_ROOM;
+    }
+    framing_layout::call::read(framing, bits, from as usize, to as usize, packet, answer)
 }

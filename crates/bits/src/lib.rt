@@ -1,4 +1,4 @@
-// User bits in bytes, lowest first: get one bit, put one bit, put a run of equal bits. Bytes copied.
+// User bits in bytes, lowest first: whether bits are there, get one bit, put one bit, put a run of equal bits. Bytes copied.
 //
 // A contract says what all bits of the buffer are afterwards; since a list of bytes is determined by its bits
 // (`bitsOf-injective` in proofs/Bits.antt), it determines every byte.
@@ -7,6 +7,7 @@ ghost use Prim.Native.Nat.{_+_, _*_, _^_, _≤_, _<_};
 ghost use mathlib.Core.Bool.{false};
 ghost use lib.ListN.{length, getD, set, replicate};
 ghost use lib.Seq.{sets};
+ghost use lib.Dec.{ltb};
 ghost use Rattle.bits.specs.Bits.{byteBits, bitsOf};
 
 pub mod reader;
@@ -17,6 +18,19 @@ pub fn get_bit(s: &[u8], at: usize) -> bool
     ensures { λ r. ⌜ r ≡ getD (bitsOf (now (s .entry))) at false ⌝ }
 {
     (s[at / 8] >> (at % 8)) % 2 == 1
+}
+
+// The bits up to number `to` lie past the bytes.
+pub fn past(bytes: &[u8], to: usize) -> bool
+    ensures { λ r. ⌜ r ≡ ltb (8 * length (now (bytes .entry))) to ⌝ }
+{
+    if bytes.len() < to / 8 {
+        return true;
+    }
+    if to / 8 < bytes.len() {
+        return false;
+    }
+    to % 8 != 0
 }
 
 // The byte with its bit k, below 8, set to `bit`.

@@ -10,7 +10,7 @@ use lib.Seq.{sets, take-at, length-sets, length-take-le}
 use lib.Dec.{leb, ltb, eqb}
 use Rattle.bits.proofs.Lists.{sets-front}
 use Rattle.bits.proofs.Tests.{and-right}
-use Rattle.layout.specs.Layout.{lowBytes, numberAt}
+use Rattle.layout.specs.Layout.{lowBytes, numberAt, packetLength}
 use Rattle.layout.proofs.Parts.{number-unpacks, number-after, length-lowBytes}
 use Rattle.serial.specs.declared.Written.the-variants.{Frame, Refused}
 use Rattle.serial.specs.Octets.{lineFrame, fits}
@@ -22,7 +22,7 @@ use Rattle.serial.proofs.Stepping.{reading-length}
 use Rattle.serial.proofs.Writes.{write-cases}
 use Rattle.serial.proofs.ReadBack.{length-lineFrame, writes-read}
 use Rattle.serial.proofs.ReadCalls.{reading-long, read-within, reads-declared}
-use Rattle.serial_layout.specs.LineBytes.{lineLength, lineBytes, lineIn, packetLength, lineWriteLength, lineWriteBytes, lineReadLength, lineReadBytes}
+use Rattle.serial_layout.specs.LineBytes.{lineLength, lineBytes, lineIn, lineWriteLength, lineWriteBytes, lineReadLength, lineReadBytes}
 use Rattle.serial_layout.proofs.LineRoundTrip.{line-unpacks, line-long, length-lineBytes, line-fresh}
 use Rattle.aes18.specs.Room.{noRoom}
 use Rattle.aes18.specs.LineCalls.{lineWriteAnswered, lineWritten, lineWriteAnswer, lineReadAnswered, lineReadRecord, lineReadPacket, lineReadAnswer}

@@ -21,7 +21,8 @@ use Rattle.receiver.specs.Reading.{readBy, readScan, readRefusal, receiverAfter
 use Rattle.framing.proofs.Scanned.{scan-most}
 use Rattle.packet.proofs.Choices.{cond-either}
 use Rattle.layout.specs.Layout.{lowBytes, circuitBytes, circuitsBytes}
-use Rattle.receiver_layout.specs.ReceiverBytes.{receiverLength, slotBytes, slotsBytes, framingBytes, receiverBytes, receiverIn, isReceiver}
+use Rattle.framing_layout.specs.FramingBytes.{framingBytes}
+use Rattle.receiver_layout.specs.ReceiverBytes.{receiverLength, slotBytes, slotsBytes, receiverBytes, receiverIn, isReceiver}
 use Rattle.receiver_layout.specs.Answers.{readAnswerLength, readAnswerBytes, bitsTold}
 use Rattle.layout.specs.Fits.{Four}
 use Rattle.receiver_layout.specs.Fits.{ReceiverSlotFits, FramingFits, ReceiverFits}

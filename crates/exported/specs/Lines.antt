@@ -6,9 +6,9 @@ use mathlib.Core.Bool.{Bool, cond, _&&_}
 use mathlib.Core.List.{List, [], _∷_, _++_}
 use lib.ListN.{length, take}
 use lib.Dec.{leb, eqb}
-use Rattle.layout.specs.Layout.{numberAt}
+use Rattle.layout.specs.Layout.{numberAt, packetLength}
 use Rattle.serial.specs.Writing.{WriteCall}
-use Rattle.serial_layout.specs.LineBytes.{packetLength, lineWriteLength, lineReadLength}
+use Rattle.serial_layout.specs.LineBytes.{lineWriteLength, lineReadLength}
 use Rattle.aes18.specs.LineCalls.{lineWriteAnswered, lineWritten, lineWriteAnswer, lineReadAnswered, lineReadRecord, lineReadPacket, lineReadAnswer}
 
 -- ---- writing

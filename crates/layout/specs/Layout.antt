@@ -1,4 +1,4 @@
--- What the layouts share: numbers of several bytes and the circuits of a record.
+-- What the layouts share: numbers of several bytes, the circuits of a record and the place for a packet.
 use Prim.Native.Nat.{ℕ, zero, suc, _+_, _*_, _/_, _%_}
 use mathlib.Core.List.{List, [], _∷_, _++_}
 use lib.ListN.{getD}
@@ -39,3 +39,7 @@ circuitsIn bytes =
       count = byteAt bytes 0;
       list = circuitFrom bytes 1 ∷ circuitFrom bytes 4 ∷ circuitFrom bytes 7 ∷ circuitFrom bytes 10 ∷ [];
     }
+
+-- the place for a packet has room for the longest
+abbrev pub packetLength : ℕ
+packetLength = 19

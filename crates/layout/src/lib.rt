@@ -1,14 +1,17 @@
-// What records and answers share in bytes: numbers of several bytes and the circuits of a record.
+// What records and answers share in bytes: numbers of several bytes, the circuits of a record and the place for a packet.
 
 ghost use mathlib.Core.Path.{_≡_};
 ghost use Prim.Native.Nat.{_+_, _%_, _≤_, min};
-ghost use lib.ListN.{length};
+ghost use lib.ListN.{length, take};
 ghost use lib.Seq.{sets};
 ghost use Rattle.packet.specs.Answers.{answerNumber};
-ghost use Rattle.layout.specs.Layout.{lowBytes, numberAt, circuitFrom, circuitsBytes, circuitsIn};
+ghost use Rattle.layout.specs.Layout.{lowBytes, numberAt, circuitFrom, circuitsBytes, circuitsIn, packetLength};
 use packet::Answer;
 use packet::Circuit;
 use packet::Circuits;
+
+// The length of the place for a packet.
+pub const PACKET: usize = 19;
 
 // The lowest byte of a number.
 pub fn low_byte(n: usize) -> u8
@@ -107,6 +110,14 @@ pub fn put_number(bytes: &mut [u8], at: usize, width: usize, n: usize)
         left /= 256;
         k += 1;
     }
+}
+
+// The first bytes of a frame, its packet, go to the start of the bytes lent.
+pub fn put_packet(bytes: &mut [u8], frame: [u8; 21], n: usize)
+    requires { ⌜ (n ≤ packetLength) × (packetLength ≤ length (now bytes)) ⌝ }
+    ensures { λ r. ⌜ now (bytes .exit) ≡ sets (now (bytes .entry)) 0 (take n frame) ⌝ }
+{
+    bits::copy_in(bytes, &frame[..n]);
 }
 
 // The number of an answer.

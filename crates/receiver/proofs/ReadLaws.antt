@@ -50,14 +50,6 @@ use Rattle.receiver.specs.Reading.{
 }
 use Rattle.receiver.proofs.InRange.{inRange-parts, arrays, scanned-in-range}
 
--- as many whole bytes as are lent, and what is left of `to`
-pub past-last : (n to : ℕ) → n ≤ to / 8 → to / 8 ≤ n → not (eqb (to % 8) 0) ≡ ltb (8 * n) to
-past-last n to h k = go (eqb (to % 8) 0) refl
-  where
-    go : (t : Bool) → eqb (to % 8) 0 ≡ t → not t ≡ ltb (8 * n) to
-    go true e = let z : to % 8 ≡ 0 = eqb-true (to % 8) 0 e in sym (le-ltb (8 * n) to (omega arith))
-    go false e = let z : to % 8 ≡ 0 → ⊥ = eqb-false (to % 8) 0 e in sym (lt-ltb (8 * n) to (omega arith))
-
 -- an answer's number is the refusal's, and 0 for a notice
 pub readNumber-readOf : (refusal : ℕ) (notice : Notice) → readNumber (readOf refusal notice) ≡ refusal
 unfolding readNumber readOf

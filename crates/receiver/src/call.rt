@@ -1,9 +1,8 @@
 // Reading: lent bits are read up to the first notice.
-ghost use Prim.Native.Nat.{_*_, _≤_};
+ghost use Prim.Native.Nat.{_≤_};
 ghost use mathlib.Core.Bool.{true};
 ghost use mathlib.Core.Path.{_≡_};
 ghost use lib.ListN.{length};
-ghost use lib.Dec.{ltb};
 ghost use Rattle.notices.specs.Stores.{storeLength};
 ghost use Rattle.receiver.specs.declared.Read.the-variants.{Told};
 ghost use Rattle.receiver.specs.Record.{inRange};
@@ -15,19 +14,6 @@ use framing::Check;
 use framing::Framing;
 use notices::Notice;
 use notices::stores;
-
-// The bits up to number `to` lie past the bytes.
-fn past(bytes: &[u8], to: usize) -> bool
-    ensures { λ r. ⌜ r ≡ ltb (8 * length (now (bytes .entry))) to ⌝ }
-{
-    if bytes.len() < to / 8 {
-        return true;
-    }
-    if to / 8 < bytes.len() {
-        return false;
-    }
-    to % 8 != 0
-}
 
 // The notice where no packet passed: a spoilt body, or the end of the bits.
 fn quiet_notice(check: Check) -> Notice
@@ -54,7 +40,7 @@ impl Receiver {
         if to < from {
             return 15;
         }
-        if past(bytes, to) {
+        if bits::past(bytes, to) {
             return 15;
         }
         0

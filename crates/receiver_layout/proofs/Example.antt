@@ -8,9 +8,10 @@ use Rattle.framing.specs.Machine as framing
 use Rattle.notices.specs.Slots.{freshSlot}
 use Rattle.receiver.specs.Record as receiver
 use Rattle.layout.specs.Layout.{lowBytes, circuitBytes, circuitsBytes}
+use Rattle.framing_layout.specs.FramingBytes.{framingBytes}
 use Rattle.receiver_layout.specs.ReceiverBytes as receivers
 
 receiver-empty : receivers.receiverBytes (receiver.fresh (recordOf [])) ≡ replicate 61 0
-unfolding receivers.receiverBytes receivers.slotsBytes receivers.slotBytes receivers.framingBytes receiver.fresh freshSlot framing.fresh framing.empty
+unfolding receivers.receiverBytes receivers.slotsBytes receivers.slotBytes framingBytes receiver.fresh freshSlot framing.fresh framing.empty
     bitValue lowBytes circuitsBytes circuitBytes recordOf noCircuit
 receiver-empty = refl

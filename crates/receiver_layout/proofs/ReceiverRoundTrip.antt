@@ -15,7 +15,8 @@ use Rattle.packet.specs.Lists.{AllAre}
 use Rattle.notices.specs.declared.Slot.{Slot}
 use Rattle.receiver.specs.declared.Receiver.{Receiver}
 use Rattle.layout.specs.Layout.{lowBytes, byteAt, numberAt, circuitBytes, circuitFrom, circuitsBytes, circuitsIn}
-use Rattle.receiver_layout.specs.ReceiverBytes.{receiverLength, slotBytes, slotIn, slotsBytes, framingBytes, framingIn, receiverBytes, receiverIn, isReceiver}
+use Rattle.framing_layout.specs.FramingBytes.{framingBytes, framingIn}
+use Rattle.receiver_layout.specs.ReceiverBytes.{receiverLength, slotBytes, slotIn, slotsBytes, receiverBytes, receiverIn, isReceiver}
 use Rattle.layout.specs.Fits.{Four}
 use Rattle.receiver_layout.specs.Fits.{ReceiverSlotFits, ReceiverFits}
 use Rattle.layout.proofs.Parts.{byte-fits, number-fits, number-unpacks, number-packs, four-elements, circuits-unpack, circuits-fit, read-slice}

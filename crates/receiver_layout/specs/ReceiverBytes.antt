@@ -1,16 +1,15 @@
--- A receiver's record in 61 bytes: its circuits, four slots of 6, and the framing. Bytes are no record's where a slot's first is neither 0 nor 1.
+-- A receiver's record in 61 bytes: its circuits, four slots of 6, and the framing, 24. Bytes are no record's where a slot's first is neither 0 nor 1.
 use Prim.Native.Nat.{ℕ, _+_}
 use mathlib.Core.Bool.{Bool, _&&_}
 use mathlib.Core.List.{List, [], _∷_, _++_}
 use lib.ListN.{getD}
-use lib.Seq.{slice}
 use lib.Dec.{leb, eqb}
 use Rattle.bits.specs.Bits.{bitValue}
-use Rattle.framing.specs.declared.Framing.{Framing}
 use Rattle.notices.specs.declared.Slot.{Slot}
 use Rattle.receiver.specs.declared.Receiver.{Receiver}
 use Rattle.notices.specs.Slots.{freshSlot}
 use Rattle.layout.specs.Layout.{lowBytes, byteAt, numberAt, circuitsBytes, circuitsIn}
+use Rattle.framing_layout.specs.FramingBytes.{framingBytes, framingIn}
 
 abbrev pub receiverLength : ℕ
 receiverLength = 61
@@ -28,14 +27,6 @@ slotsBytes ts =
     slotBytes (getD ts 0 freshSlot) ++ slotBytes (getD ts 1 freshSlot) ++ slotBytes (getD ts 2 freshSlot) ++
     slotBytes (getD ts 3 freshSlot)
 
--- the framing, 24 bytes: phase, ones, count, and 21 bytes of bits
-unfoldable pub framingBytes : Framing → List ℕ
-framingBytes f = f .phase ∷ f .ones ∷ f .count ∷ f .bits
-
-unfoldable pub framingIn : List ℕ → Framing
-framingIn bytes =
-    record { phase = byteAt bytes 37; ones = byteAt bytes 38; count = byteAt bytes 39; bits = slice 40 61 bytes }
-
 unfoldable pub receiverBytes : Receiver → List ℕ
 receiverBytes r = circuitsBytes (r .circuits) ++ slotsBytes (r .slots) ++ framingBytes (r .framing)
 
@@ -44,7 +35,7 @@ receiverIn bytes =
     record {
       circuits = circuitsIn bytes;
       slots = slotIn bytes 13 ∷ slotIn bytes 19 ∷ slotIn bytes 25 ∷ slotIn bytes 31 ∷ [];
-      framing = framingIn bytes;
+      framing = framingIn bytes 37;
     }
 
 -- some record is laid out like this

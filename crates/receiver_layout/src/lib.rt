@@ -6,8 +6,9 @@ ghost use mathlib.Core.Path.{_≡_};
 ghost use Prim.Native.Nat.{_+_, _≤_};
 ghost use lib.ListN.{length};
 ghost use lib.Seq.{sets};
-ghost use Rattle.receiver_layout.specs.ReceiverBytes.{receiverLength, slotBytes, slotIn, slotsBytes, framingBytes, framingIn, receiverBytes, receiverIn, isReceiver};
-use framing::Framing;
+ghost use Rattle.receiver_layout.specs.ReceiverBytes.{receiverLength, slotBytes, slotIn, slotsBytes, receiverBytes, receiverIn, isReceiver};
+use framing_layout::framing_in;
+use framing_layout::put_framing;
 use layout::circuits_bytes;
 use layout::circuits_in;
 use layout::low_byte;
@@ -50,21 +51,6 @@ fn slot_in(bytes: &[u8], at: usize) -> Slot
     }
 }
 
-// The framing behind the slots.
-fn framing_in(bytes: &[u8]) -> Framing
-    requires { ⌜ receiverLength ≤ length (now bytes) ⌝ }
-    ensures { λ r. ⌜ r ≡ framingIn (now (bytes .entry)) ⌝ }
-{
-    let mut kept = [0u8; 21];
-    bits::copy_in(&mut kept, &bytes[40..61]);
-    Framing {
-        phase: bytes[37],
-        ones: bytes[38],
-        count: bytes[39],
-        bits: kept,
-    }
-}
-
 // The record in bytes.
 pub fn receiver_in(bytes: &[u8]) -> Receiver
     requires { ⌜ receiverLength ≤ length (now bytes) ⌝ }
@@ -75,7 +61,7 @@ pub fn receiver_in(bytes: &[u8]) -> Receiver
     let second = slot_in(bytes, 19);
     let third = slot_in(bytes, 25);
     let fourth = slot_in(bytes, 31);
-    let framing = framing_in(bytes);
+    let framing = framing_in(bytes, 37);
     Receiver {
         circuits,
         slots: [first, second, third, fourth],
@@ -119,17 +105,6 @@ fn put_slots(bytes: &mut [u8], slots: [Slot; 4])
     put_slot(bytes, 31, slots[3]);
 }
 
-// The framing's bytes go to their place behind the slots.
-fn put_framing(bytes: &mut [u8], framing: Framing)
-    requires { ⌜ receiverLength ≤ length (now bytes) ⌝ }
-    ensures { λ r. ⌜ now (bytes .exit) ≡ sets (now (bytes .entry)) 37 (framingBytes framing) ⌝ }
-{
-    let head = [framing.phase, framing.ones, framing.count];
-    let kept = framing.bits;
-    bits::copy_at(bytes, 37, &head);
-    bits::copy_at(bytes, 40, &kept);
-}
-
 // The record's bytes go to the start of the bytes lent.
 pub fn put_receiver(bytes: &mut [u8], receiver: Receiver)
     requires { ⌜ receiverLength ≤ length (now bytes) ⌝ }
@@ -141,5 +116,5 @@ pub fn put_receiver(bytes: &mut [u8], receiver: Receiver)
     let front = circuits_bytes(circuits);
     bits::copy_in(bytes, &front);
     put_slots(bytes, slots);
-    put_framing(bytes, framing);
+    put_framing(bytes, 37, framing);
 }

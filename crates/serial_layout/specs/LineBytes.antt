@@ -23,10 +23,6 @@ unfoldable pub lineIn : List ℕ → Line
 lineIn bytes =
     record { inside = yes (byteAt bytes 0); escape = yes (byteAt bytes 1); count = byteAt bytes 2; bytes = slice 3 24 bytes }
 
--- the place for a packet has room for the longest
-abbrev pub packetLength : ℕ
-packetLength = 19
-
 -- the answer of writing, 8 bytes: how many bytes are written
 abbrev pub lineWriteLength : ℕ
 lineWriteLength = 8

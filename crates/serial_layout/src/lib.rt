@@ -1,17 +1,15 @@
-// The record of a serial line's reader, its packet and its answer, in bytes.
+// The record of a serial line's reader and its answer, in bytes.
 
 ghost use mathlib.Core.Path.{_≡_};
 ghost use Prim.Native.Nat.{_≤_};
-ghost use lib.ListN.{length, take};
+ghost use lib.ListN.{length};
 ghost use lib.Seq.{sets};
-ghost use Rattle.serial_layout.specs.LineBytes.{lineLength, lineBytes, lineIn, packetLength, lineReadLength, lineReadBytes};
+ghost use Rattle.serial_layout.specs.LineBytes.{lineLength, lineBytes, lineIn, lineReadLength, lineReadBytes};
 use layout::put_number;
 use serial::Line;
 
-// The lengths of the record, of the longest packet, and of the answers of writing and of reading.
+// The lengths of the record and of the answers of writing and of reading.
 pub const LENGTH: usize = 24;
-
-pub const PACKET: usize = 19;
 
 pub const WRITE_ANSWER: usize = 8;
 
@@ -41,14 +39,6 @@ pub fn put_line(bytes: &mut [u8], line: Line)
     let kept = line.bytes;
     bits::copy_in(bytes, &head);
     bits::copy_at(bytes, 3, &kept);
-}
-
-// The first bytes of a frame, its packet, go to the start of the bytes lent.
-pub fn put_packet(bytes: &mut [u8], frame: [u8; 21], n: usize)
-    requires { ⌜ (n ≤ packetLength) × (packetLength ≤ length (now bytes)) ⌝ }
-    ensures { λ r. ⌜ now (bytes .exit) ≡ sets (now (bytes .entry)) 0 (take n frame) ⌝ }
-{
-    bits::copy_in(bytes, &frame[..n]);
 }
 
 // A reading call's answer goes to the start of the bytes lent: the packet's length, and how many bytes were read.

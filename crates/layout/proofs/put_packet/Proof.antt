@@ -1,10 +1,10 @@
--- `serial_layout::put_packet` meets its contract.
+-- `layout::put_packet` meets its contract.
 use mathlib.Core.Path.{sym}
 use native.Mathlib.Omega.{arith}
 use lib.Seq.{length-take-le}
 use borrow.Author.Needs.{needs}
-use Rattle.serial_layout.proofs.put_packet.Statement.{statement}
-use Rattle.serial_layout.proofs.put_packet.Tie as tie
+use Rattle.layout.proofs.put_packet.Statement.{statement}
+use Rattle.layout.proofs.put_packet.Tie as tie
 
 array-share-prefix-frame : tie.Need-array-share-prefix-frame
 array-share-prefix-frame c = search needs
