@@ -11,3 +11,4 @@ pub mod ReceiverLists
 pub mod NoteCarried
 pub mod TotalsCarried
 pub mod LinesCarried
+pub mod FramingsCarried

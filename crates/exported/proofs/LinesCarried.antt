@@ -87,7 +87,7 @@ read-told n read answer room h =
     (number-unpacks 8 n h (lowBytes 8 read ++ drop (length (lowBytes 8 n ++ lowBytes 8 read)) answer))
 
 -- the first bytes of a place to which these are written
-place-front : (n : ℕ) (frame place : List ℕ) → n ≤ length frame → n ≤ length place → take n (sets place 0 (take n frame)) ≡ take n frame
+pub place-front : (n : ℕ) (frame place : List ℕ) → n ≤ length frame → n ≤ length place → take n (sets place 0 (take n frame)) ≡ take n frame
 place-front n frame place inside room =
     let long : length (take n frame) ≡ n = length-take-le n frame inside in
     rw (sets-front place (take n frame) (omega (arith, long))) (take-at (take n frame) _ n long)

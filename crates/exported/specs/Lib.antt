@@ -2,3 +2,4 @@
 pub mod Lent
 pub mod Noting
 pub mod Lines
+pub mod Framings

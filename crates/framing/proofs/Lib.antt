@@ -20,3 +20,4 @@ pub mod ScanInRange
 pub mod Stepping
 pub mod Turns
 pub mod Cutting
+pub mod ScanGives

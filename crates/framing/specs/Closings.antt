@@ -41,6 +41,13 @@ unfoldable pub notVoid : List Body → List Body
 notVoid [] = []
 notVoid (b ∷ bs) = cond (void (b .bits)) (notVoid bs) (b ∷ notVoid bs)
 
+-- what bodies give, without those that give nothing
+unfoldable pub notNothing : List Judged → List Judged
+notNothing [] = []
+notNothing (passes p ∷ js) = passes p ∷ notNothing js
+notNothing (spoilt ∷ js) = spoilt ∷ notNothing js
+notNothing (nothing ∷ js) = notNothing js
+
 -- ---- of the machine
 
 -- what an answer of the body check gives, with the framing's bytes beside it

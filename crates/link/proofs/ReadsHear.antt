@@ -20,7 +20,8 @@ use Rattle.receiver.specs.Record.{fresh, inRange}
 use Rattle.receiver.specs.Reading.{passed, readRefusal, bitsRead}
 use Rattle.receiver.specs.Reads.{ReadCall, ReceiverEnd, freshReceiverEnd, afterRead, bitsOfRead, bitsOfReads, Report, toldByReads, toldByJudged, isEnd, notEnd}
 use Rattle.receiver.proofs.ReadingCalls.{length-storeAfterRead}
-use Rattle.receiver.proofs.ReadsTell.{gives, reads-tell}
+use Rattle.framing.proofs.ScanGives.{gives}
+use Rattle.receiver.proofs.ReadsTell.{reads-tell}
 use Rattle.link.specs.Demand3.{lossAt, lossesAt, handedAt, handedOver}
 use Rattle.link.proofs.Steps.{packetGiven, given, toldByPackets}
 

@@ -29,7 +29,8 @@ use Rattle.receiver.specs.Reading.{withFraming, noticed, readBy, readSca
 use Rattle.receiver.specs.Reads.{ReadCall, ReceiverEnd, freshReceiverEnd, afterReads, bitsOfRead, bitsOfReads, Report, reportOf, told, toldByReads, toldByJudged, isEnd, notEnd}
 use Rattle.receiver.specs.TellsFirst.{toldUpTo, TellsFirst}
 use Rattle.receiver.proofs.ReadLaws.{told-by, before-scan}
-use Rattle.receiver.proofs.ReadsTell.{gives, gives-from, gives-append, take-slice, passed-tells, read-tells, reads-tell-then, bodies-tell, reads-leave}
+use Rattle.framing.proofs.ScanGives.{gives, gives-from, gives-append, take-slice}
+use Rattle.receiver.proofs.ReadsTell.{passed-tells, read-tells, reads-tell-then, bodies-tell, reads-leave}
 
 -- ---- a scan
 

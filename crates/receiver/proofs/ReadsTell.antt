@@ -1,16 +1,15 @@
 -- What is read out of any bits equals what they give: whatever reading calls, accepted or refused, and wherever they cut the bits, their notices but End,
 -- with the store as each call left it, are those of the declared bodies of all bits read, in order; and they leave the framing that these bits leave.
-use Prim.Native.Nat.{ℕ, zero, suc, _+_, _-_, _≤_}
-use native.Mathlib.Omega.{arith}
+use Prim.Native.Nat.{ℕ, _+_, _-_}
 use mathlib.Core.Bool.{Bool, true, false, cond}
-use mathlib.Core.List.{List, [], _∷_, _++_, map, map-append, append-assoc, append-nil}
+use mathlib.Core.List.{List, [], _∷_, _++_, map, append-assoc, append-nil}
 use mathlib.Core.Option.{Option, none, some}
 use mathlib.Core.Path.{_≡_, refl, sym, ap, _∙_}
-use lib.ListN.{length, take, drop, length-take}
-use lib.Seq.{slice, take-nil, take-take}
+use lib.ListN.{take, drop}
+use lib.Seq.{slice}
 use lib.Dec.{eqb}
 use Rattle.bits.specs.Bits.{bitsOf}
-use Rattle.hdlc.specs.Bodies.{Body, Judged, passes, spoilt, nothing, bodies, void, judge}
+use Rattle.hdlc.specs.Bodies.{Body, Judged, passes, spoilt, nothing, bodies, judge}
 use Rattle.packet.specs.Circuits.{listed, listing, numberFrom}
 use Rattle.packet.proofs.Choices.{cond-either}
 use Rattle.parsing.specs.Packets.{address, circuitIn, malformed}
@@ -22,15 +21,13 @@ use Rattle.framing.specs.declared.Check.{Check}
 use Rattle.framing.specs.declared.Check.the-variants.{Packet, Nothing}
 use Rattle.framing.specs.declared.Check.the-variants.{Spoilt as SpoiltBody}
 use Rattle.framing.specs.declared.Scan.{Scan}
-use Rattle.framing.specs.Machine.{step, run, closes, check}
+use Rattle.framing.specs.Machine.{run, closes, check}
 use Rattle.framing.specs.Machine.{fresh as freshFraming}
-use Rattle.framing.specs.Closings.{Closing, closingOf, notVoid, givenBy, closed, closings}
-use Rattle.framing.specs.Scanning.{ended, stopped, scan}
-use Rattle.framing.proofs.FramingFindsBodies.{framing-finds-bodies}
-use Rattle.framing.proofs.Void.{void-gives-nothing}
-use Rattle.framing.proofs.Runs.{run-append, closings-append}
-use Rattle.framing.proofs.Scanned.{scan-least, scan-most}
-use Rattle.framing.proofs.ScanFindsFirst.{take-behind, scan-leaves}
+use Rattle.framing.specs.Closings.{notNothing, givenBy, closings}
+use Rattle.framing.specs.Scanning.{scan}
+use Rattle.framing.proofs.ScanGives.{gives, gives-from, gives-append, notNothing-append, scan-gives, scan-takes, bodies-given}
+use Rattle.framing.proofs.Runs.{run-append}
+use Rattle.framing.proofs.ScanFindsFirst.{scan-leaves}
 use Rattle.receiver.specs.declared.Receiver.{Receiver}
 use Rattle.receiver.specs.Record.{fresh}
 use Rattle.receiver.specs.declared.Read.the-variants.{Told, Refused}
@@ -38,86 +35,24 @@ use Rattle.receiver.specs.Reading.{withFraming, Noticed, passed, noticed
 use Rattle.receiver.specs.Reads.{ReadCall, ReceiverEnd, freshReceiverEnd, afterRead, afterReads, bitsOfRead, bitsOfReads, Report, reportOf, told, toldByReads, toldByJudged, toldByBodies, isEnd, notEnd}
 use Rattle.receiver.proofs.InRange.{withFramingLeft, passed-withFraming, noticed-framing}
 
--- ---- what closed bodies give
+-- ---- what bodies tell
 
-abbrev pub gives : List Closing → List Judged
-gives cs = map (λ (c : Closing). c .gives) cs
+-- those that give nothing tell nothing
+notNothing-tell : (js : List Judged) (r : Receiver) (store : List ℕ) → toldByJudged r store js ≡ toldByJudged r store (notNothing js)
+unfolding toldByJudged notNothing
+notNothing-tell [] r store = refl
+notNothing-tell (passes p ∷ js) r store =
+    rw (notNothing-tell js (passed r store p .receiver) (passed r store p .store))
+notNothing-tell (spoilt ∷ js) r store = rw (notNothing-tell js r store)
+notNothing-tell (nothing ∷ js) r store = notNothing-tell js r store
 
--- it is the same wherever the bits are counted from
-pub gives-from : (bits : List Bool) (f : Framing) (m n : ℕ) → gives (closings f m bits) ≡ gives (closings f n bits)
-unfolding closings closed
-gives-from [] f m n = refl
-gives-from (b ∷ bits) f m n = go (closes f b) (gives-from bits (step f b) (suc m) (suc n))
-  where
-    go : (t : Bool) → gives (closings (step f b) (suc m) bits) ≡ gives (closings (step f b) (suc n) bits)
-        → gives (cond t (closed f (suc m) ∷ closings (step f b) (suc m) bits) (closings (step f b) (suc m) bits))
-        ≡ gives (cond t (closed f (suc n) ∷ closings (step f b) (suc n) bits) (closings (step f b) (suc n) bits))
-    go true later = ap (λ js. givenBy (check f) (f .bits) ∷ js) later
-    go false later = later
+-- bodies that give the same tell the same, with bodies behind them too
+tell-same : (js ks : List Judged) → notNothing js ≡ notNothing ks → (r : Receiver) (store : List ℕ) → toldByJudged r store js ≡ toldByJudged r store ks
+tell-same js ks e r store = notNothing-tell js r store ∙ rw e (sym (notNothing-tell ks r store))
 
-pub gives-append : (a b : List Bool) (f : Framing) → gives (closings f 0 (a ++ b)) ≡ gives (closings f 0 a) ++ gives (closings (run f a) 0 b)
-gives-append a b f =
-    rw (
-      closings-append a b f 0,
-      map-append (λ (c : Closing). c .gives) (closings f 0 a) (closings (run f a) (0 + length a) b),
-      gives-from b (run f a) (0 + length a) 0,
-    )
-
--- the bodies of both lists tell the same
-abbrev TellSame : List Judged → List Judged → Type 0
-TellSame js ks = (r : Receiver) (store : List ℕ) → toldByJudged r store js ≡ toldByJudged r store ks
-
--- ---- a scan
-
--- the bits that a scan reads tell what the scan tells, and nothing else, whatever is told behind them
-Tells : Framing → ℕ → List Bool → Scan → Type 0
-Tells f at bits s = (js : List Judged) → TellSame (gives (closings f at (take (s .at - at) bits)) ++ js) (givenBy (s .check) (s .bytes) ∷ js)
-
--- a bit, where the later bits' scan tells so
-module _ (f : Framing) (at : ℕ) (b : Bool) (bits : List Bool) (later : Scan) (least : suc at ≤ later .at) (tells : Tells (step f b) (suc at) bits later) where
-  read-on : take (later .at - at) (b ∷ bits) ≡ b ∷ take (later .at - suc at) bits
-  read-on = take-behind (later .at) at b bits least
-
-  read-one : take (suc at - at) (b ∷ bits) ≡ b ∷ []
-  read-one = let e : suc at - at ≡ 1 = omega arith in rw e
-
-  -- it closes no body
-  quiet-tells : closes f b ≡ false → Tells f at (b ∷ bits) later
-  unfolding Tells closings
-  quiet-tells e = rw (read-on, e) tells
-
-  -- it closes one
-  stopped-tells : (c : Check) → check f ≡ c → closes f b ≡ true → Tells f at (b ∷ bits) (stopped c f b at later)
-  unfolding Tells stopped closings closed toldByJudged givenBy
-  stopped-tells (Packet n) k e = λ js r store. rw (read-one, e, k)
-  stopped-tells SpoiltBody k e = λ js r store. rw (read-one, e, k)
-  stopped-tells Nothing k e = rw (read-on, e, k) tells
-
-scan-tells : (bits : List Bool) (f : Framing) (at : ℕ) → Tells f at bits (scan f at bits)
-unfolding Tells scan ended closings toldByJudged givenBy
-scan-tells [] f at = λ js r store. rw take-nil
-scan-tells (b ∷ bits) f at = go (closes f b) refl (scan-tells bits (step f b) (suc at))
-  where
-    later : Scan
-    later = scan (step f b) (suc at) bits
-
-    go : (t : Bool) → closes f b ≡ t → Tells (step f b) (suc at) bits later → Tells f at (b ∷ bits) (cond t (stopped (check f) f b at later) later)
-    go true e h = stopped-tells f at b bits later (scan-least bits (step f b) (suc at)) h (check f) refl e
-    go false e h = quiet-tells f at b bits later (scan-least bits (step f b) (suc at)) h e
-
--- the front of a part
-pub take-slice : {A : Type 0} (from to n : ℕ) (l : List A) → n ≤ length (slice from to l) → take n (slice from to l) ≡ take n (drop from l)
-take-slice zero to n l h = take-take n to l (omega (arith, length-take to l))
-take-slice (suc from) zero n l h = let e : n ≡ 0 = omega arith in rw e
-take-slice (suc from) (suc to) n [] h = refl
-take-slice (suc from) (suc to) n (x ∷ l) h = take-slice from to n l h
-
--- the bits that a scan reads
-scan-reads : (f : Framing) (from to : ℕ) (l : List Bool)
-    → (let s = scan f from (slice from to l) in take (s .at - from) (drop from l) ≡ take (s .at - from) (slice from to l))
-scan-reads f from to l =
-    let part : List Bool = slice from to l in
-    sym (take-slice from to (scan f from part .at - from) l (omega (arith, scan-most part f from)))
+tell-same-then : (js ks ls : List Judged) → notNothing js ≡ notNothing ks
+    → (r : Receiver) (store : List ℕ) → toldByJudged r store (js ++ ls) ≡ toldByJudged r store (ks ++ ls)
+tell-same-then js ks ls e = tell-same (js ++ ls) (ks ++ ls) (rw (notNothing-append, notNothing-append, e))
 
 -- ---- what packets tell
 
@@ -187,14 +122,14 @@ module _ (e : ReceiverEnd) (c : ReadCall) where
       go : (t : Bool) → cond t (h .receiver) r .framing ≡ run (r .framing) (take (cond t (s .at - c .from) 0) (drop (c .from) (bitsOf (c .bytes))))
       go false = refl
       go true =
-          rw (noticed-framing (s .check) (s .bytes) (withFraming r (s .framing)) (e .store), scan-reads (r .framing) (c .from) (c .to) (bitsOf (c .bytes)))
+          rw (noticed-framing (s .check) (s .bytes) (withFraming r (s .framing)) (e .store), scan-takes (r .framing) (c .from) (c .to) (bitsOf (c .bytes)))
           (scan-leaves part (r .framing) (c .from))
 
   -- and tells what the bodies in these bits tell, with bodies behind them
   pub read-tells : (js : List Judged)
       → toldByJudged r (e .store) (gives (closings (r .framing) 0 (bitsOfRead e c)) ++ js)
       ≡ notEnd (told e c) ++ toldByJudged (afterRead e c .receiver) (afterRead e c .store) js
-  unfolding told reportOf answerToRead readOf afterRead receiverAfterRead storeAfterRead bitsOfRead bitsRead readScan readBy closings notEnd Tells
+  unfolding told reportOf answerToRead readOf afterRead receiverAfterRead storeAfterRead bitsOfRead bitsRead readScan readBy closings notEnd
   read-tells js = go (eqb (readRefusal (e .receiver) (e .store) (c .bytes) (c .from) (c .to)) 0)
     where
       go : (t : Bool)
@@ -204,9 +139,9 @@ module _ (e : ReceiverEnd) (c : ReadCall) where
       go false = refl
       go true =
           rw (
-            scan-reads (r .framing) (c .from) (c .to) (bitsOf (c .bytes)),
+            scan-takes (r .framing) (c .from) (c .to) (bitsOf (c .bytes)),
             gives-from (take (s .at - c .from) part) (r .framing) 0 (c .from),
-            scan-tells part (r .framing) (c .from) js r (e .store),
+            tell-same-then (gives (closings (r .framing) (c .from) (take (s .at - c .from) part))) (givenBy (s .check) (s .bytes) ∷ []) js (scan-gives part (r .framing) (c .from)) r (e .store),
           )
           (sym (toldByJudged-withFraming (givenBy (s .check) (s .bytes) ∷ js) r (s .framing) (e .store))
           ∙ noticed-tells (s .check) (s .bytes) (withFraming r (s .framing)) (e .store) js)
@@ -249,31 +184,10 @@ afterReads-leaves (c ∷ cs) e =
 
 -- ---- declared bodies
 
--- behind a body, too, they tell the same
-tell-more : (j : Judged) (js ks : List Judged) → TellSame js ks → TellSame (j ∷ js) (j ∷ ks)
-unfolding toldByJudged
-tell-more (passes p) js ks later = λ r store. rw (later (passed r store p .receiver) (passed r store p .store))
-tell-more spoilt js ks later = λ r store. rw (later r store)
-tell-more nothing js ks later = later
-
--- those that are not void tell what all tell
-notVoid-tell : (bs : List Body) → TellSame (gives (map closingOf (notVoid bs))) (map (λ (b : Body). judge (b .bits)) bs)
-unfolding toldByJudged closingOf notVoid
-notVoid-tell [] = λ r store. refl
-notVoid-tell (b ∷ bs) = go (void (b .bits)) refl (notVoid-tell bs)
-  where
-    js : List Judged
-    js = map (λ (b : Body). judge (b .bits)) bs
-
-    go : (v : Bool) → void (b .bits) ≡ v → TellSame (gives (map closingOf (notVoid bs))) js
-        → TellSame (gives (map closingOf (cond v (notVoid bs) (b ∷ notVoid bs)))) (judge (b .bits) ∷ js)
-    go true e later = rw (void-gives-nothing (b .bits) e) later
-    go false e later = tell-more (judge (b .bits)) (gives (map closingOf (notVoid bs))) js later
-
 -- what declared bodies tell, by those that the machine closes
 pub bodies-tell : (bits : List Bool) (r : Receiver) (store : List ℕ) → toldByJudged r store (gives (closings freshFraming 0 bits)) ≡ toldByBodies r store (bodies bits)
 unfolding toldByBodies
-bodies-tell bits r store = ap (λ cs. toldByJudged r store (gives cs)) (framing-finds-bodies bits) ∙ notVoid-tell (bodies bits) r store
+bodies-tell bits = tell-same (gives (closings freshFraming 0 bits)) (map (λ (b : Body). judge (b .bits)) (bodies bits)) (bodies-given bits)
 
 -- ---- from a fresh receiver on
 

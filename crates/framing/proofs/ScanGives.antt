@@ -1,0 +1,132 @@
+-- What a scan gives is what the bodies give that are closed in the bits it reads; and those that are closed from a fresh framing on give what the declared
+-- bodies of the bits give.
+use Prim.Native.Nat.{ℕ, zero, suc, _+_, _-_, _≤_}
+use native.Mathlib.Omega.{arith}
+use mathlib.Core.Bool.{Bool, true, false, cond}
+use mathlib.Core.List.{List, [], _∷_, _++_, map, map-append}
+use mathlib.Core.Path.{_≡_, refl, sym, ap, _∙_}
+use lib.ListN.{length, take, drop, length-take}
+use lib.Seq.{slice, take-nil, take-take}
+use Rattle.hdlc.specs.Bodies.{Body, Judged, passes, spoilt, nothing, bodies, void, judge}
+use Rattle.framing.specs.declared.Framing.{Framing}
+use Rattle.framing.specs.declared.Check.{Check}
+use Rattle.framing.specs.declared.Check.the-variants.{Packet, Spoilt, Nothing}
+use Rattle.framing.specs.declared.Scan.{Scan}
+use Rattle.framing.specs.Machine.{fresh, step, run, closes, check}
+use Rattle.framing.specs.Closings.{Closing, closingOf, notVoid, notNothing, givenBy, closed, closings}
+use Rattle.framing.specs.Scanning.{ended, stopped, scan}
+use Rattle.framing.proofs.FramingFindsBodies.{framing-finds-bodies}
+use Rattle.framing.proofs.Void.{void-gives-nothing}
+use Rattle.framing.proofs.Runs.{closings-append}
+use Rattle.framing.proofs.Scanned.{scan-least, scan-most}
+use Rattle.framing.proofs.ScanFindsFirst.{take-behind}
+
+-- ---- what closed bodies give
+
+abbrev pub gives : List Closing → List Judged
+gives cs = map (λ (c : Closing). c .gives) cs
+
+-- it is the same wherever the bits are counted from
+pub gives-from : (bits : List Bool) (f : Framing) (m n : ℕ) → gives (closings f m bits) ≡ gives (closings f n bits)
+unfolding closings closed
+gives-from [] f m n = refl
+gives-from (b ∷ bits) f m n = go (closes f b) (gives-from bits (step f b) (suc m) (suc n))
+  where
+    go : (t : Bool) → gives (closings (step f b) (suc m) bits) ≡ gives (closings (step f b) (suc n) bits)
+        → gives (cond t (closed f (suc m) ∷ closings (step f b) (suc m) bits) (closings (step f b) (suc m) bits))
+        ≡ gives (cond t (closed f (suc n) ∷ closings (step f b) (suc n) bits) (closings (step f b) (suc n) bits))
+    go true later = ap (λ js. givenBy (check f) (f .bits) ∷ js) later
+    go false later = later
+
+pub gives-append : (a b : List Bool) (f : Framing) → gives (closings f 0 (a ++ b)) ≡ gives (closings f 0 a) ++ gives (closings (run f a) 0 b)
+gives-append a b f =
+    rw (
+      closings-append a b f 0,
+      map-append (λ (c : Closing). c .gives) (closings f 0 a) (closings (run f a) (0 + length a) b),
+      gives-from b (run f a) (0 + length a) 0,
+    )
+
+-- behind a body, too, the same is given
+more-given : (j : Judged) (js ks : List Judged) → notNothing js ≡ notNothing ks → notNothing (j ∷ js) ≡ notNothing (j ∷ ks)
+unfolding notNothing
+more-given (passes p) js ks e = ap (λ ls. passes p ∷ ls) e
+more-given spoilt js ks e = ap (λ ls. spoilt ∷ ls) e
+more-given nothing js ks e = e
+
+pub notNothing-append : (js ks : List Judged) → notNothing (js ++ ks) ≡ notNothing js ++ notNothing ks
+unfolding notNothing
+notNothing-append [] ks = refl
+notNothing-append (passes p ∷ js) ks = ap (λ ls. passes p ∷ ls) (notNothing-append js ks)
+notNothing-append (spoilt ∷ js) ks = ap (λ ls. spoilt ∷ ls) (notNothing-append js ks)
+notNothing-append (nothing ∷ js) ks = notNothing-append js ks
+
+-- ---- a scan
+
+-- the bodies closed in the bits that a scan reads give what the scan gives, and nothing else
+abbrev Gives : Framing → ℕ → List Bool → Scan → Type 0
+Gives f at bits s = notNothing (gives (closings f at (take (s .at - at) bits))) ≡ notNothing (givenBy (s .check) (s .bytes) ∷ [])
+
+-- a bit, where the later bits' scan gives so
+module _ (f : Framing) (at : ℕ) (b : Bool) (bits : List Bool) (later : Scan) (least : suc at ≤ later .at) (given : Gives (step f b) (suc at) bits later) where
+  read-on : take (later .at - at) (b ∷ bits) ≡ b ∷ take (later .at - suc at) bits
+  read-on = take-behind (later .at) at b bits least
+
+  read-one : take (suc at - at) (b ∷ bits) ≡ b ∷ []
+  read-one = let e : suc at - at ≡ 1 = omega arith in rw e
+
+  -- it closes no body
+  quiet-gives : closes f b ≡ false → Gives f at (b ∷ bits) later
+  unfolding closings
+  quiet-gives e = rw (read-on, e) given
+
+  -- it closes one
+  stopped-gives : (c : Check) → check f ≡ c → closes f b ≡ true → Gives f at (b ∷ bits) (stopped c f b at later)
+  unfolding stopped closings closed notNothing givenBy
+  stopped-gives (Packet n) k e = rw (read-one, e, k)
+  stopped-gives Spoilt k e = rw (read-one, e, k)
+  stopped-gives Nothing k e = rw (read-on, e, k) given
+
+pub scan-gives : (bits : List Bool) (f : Framing) (at : ℕ) → Gives f at bits (scan f at bits)
+unfolding scan ended closings notNothing givenBy
+scan-gives [] f at = rw take-nil
+scan-gives (b ∷ bits) f at = go (closes f b) refl (scan-gives bits (step f b) (suc at))
+  where
+    later : Scan
+    later = scan (step f b) (suc at) bits
+
+    go : (t : Bool) → closes f b ≡ t → Gives (step f b) (suc at) bits later → Gives f at (b ∷ bits) (cond t (stopped (check f) f b at later) later)
+    go true e h = stopped-gives f at b bits later (scan-least bits (step f b) (suc at)) h (check f) refl e
+    go false e h = quiet-gives f at b bits later (scan-least bits (step f b) (suc at)) h e
+
+-- the front of a part
+pub take-slice : {A : Type 0} (from to n : ℕ) (l : List A) → n ≤ length (slice from to l) → take n (slice from to l) ≡ take n (drop from l)
+take-slice zero to n l h = take-take n to l (omega (arith, length-take to l))
+take-slice (suc from) zero n l h = let e : n ≡ 0 = omega arith in rw e
+take-slice (suc from) (suc to) n [] h = refl
+take-slice (suc from) (suc to) n (x ∷ l) h = take-slice from to n l h
+
+-- the bits that a scan reads
+pub scan-takes : (f : Framing) (from to : ℕ) (l : List Bool)
+    → (let s = scan f from (slice from to l) in take (s .at - from) (drop from l) ≡ take (s .at - from) (slice from to l))
+scan-takes f from to l =
+    let part : List Bool = slice from to l in
+    sym (take-slice from to (scan f from part .at - from) l (omega (arith, scan-most part f from)))
+
+-- ---- declared bodies
+
+-- those that are not void give what all give
+notVoid-given : (bs : List Body) → notNothing (gives (map closingOf (notVoid bs))) ≡ notNothing (map (λ (b : Body). judge (b .bits)) bs)
+unfolding closingOf notVoid notNothing
+notVoid-given [] = refl
+notVoid-given (b ∷ bs) = go (void (b .bits)) refl (notVoid-given bs)
+  where
+    js : List Judged
+    js = map (λ (b : Body). judge (b .bits)) bs
+
+    go : (v : Bool) → void (b .bits) ≡ v → notNothing (gives (map closingOf (notVoid bs))) ≡ notNothing js
+        → notNothing (gives (map closingOf (cond v (notVoid bs) (b ∷ notVoid bs)))) ≡ notNothing (judge (b .bits) ∷ js)
+    go true e later = rw (void-gives-nothing (b .bits) e) later
+    go false e later = more-given (judge (b .bits)) (gives (map closingOf (notVoid bs))) js later
+
+pub bodies-given : (bits : List Bool) → notNothing (gives (closings fresh 0 bits)) ≡ notNothing (map (λ (b : Body). judge (b .bits)) (bodies bits))
+bodies-given bits = ap (λ cs. notNothing (gives cs)) (framing-finds-bodies bits) ∙ notVoid-given (bodies bits)
