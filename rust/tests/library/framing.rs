@@ -60,17 +60,17 @@ fn packets_of(bodies: &[Body]) -> Vec<Vec<u8>> {
     bodies.iter().filter_map(packet).collect()
 }
 
-/// Packets of every length come back from bits cut in two at any place and in parts of any length, each at the same bit.
+/// Packets of every length, and a torn one behind them, come from bits cut in two at any place and in parts of any length, each at the same bit.
 #[test]
 fn bits_may_be_cut_anywhere() {
-    let mut bits = all_framed(&packets());
-    let torn = bits.len() - 60;
+    let mut bits = all_framed(&[packets(), vec![b"torn".to_vec()]].concat());
+    let torn = bits.len() - 20;
     bits[torn] = !bits[torn];
     let end = bits.len() as u64;
     let whole = read_on(&mut Framing::new(), &bits, &[end]);
     let bodies: Vec<Body> = whole.iter().map(|(_, body)| *body).collect();
     assert_eq!(bodies.last(), Some(&Body::Spoilt));
-    assert_eq!(packets_of(&bodies), packets()[..packets().len() - 1]);
+    assert_eq!(packets_of(&bodies), packets());
     for step in 1..=end {
         let told = read_on(&mut Framing::new(), &bits, &[step, end]);
         assert_eq!(told, whole, "cut behind {step} bits");
