@@ -20,6 +20,20 @@ struct plain_read {
     uint64_t bits;
 };
 
+/* A framing: the last 16 bits, the newest highest, which are ones in a fresh one; whether a body is open, how many bits of it are kept, the last eight
+   of them, and their whole bytes: one more than the longest body that passes has, as the closing flag's first bits are kept too. */
+struct plain_framing {
+    uint16_t window;
+    uint8_t inside, count, last;
+    uint8_t body[22];
+};
+
+/* The answer of a framing's read. On a little-endian machine its bytes are those of the library's answer; `none` is 0. */
+struct plain_framing_answer {
+    uint8_t body, length, none[6];
+    uint64_t bits;
+};
+
 /* Totals: the figures of each circuit number. On a little-endian machine their bytes are those of the library's record. */
 struct plain_totals {
     struct plain_figures {
@@ -53,6 +67,8 @@ uint32_t plain_sender_block(struct plain_sender *s, const uint8_t *store, size_t
 uint32_t plain_receiver_list(struct plain_receiver *r, const uint8_t *list, size_t list_len);
 uint32_t plain_receiver_read(struct plain_receiver *r, uint8_t *store, size_t store_len, const uint8_t *bits, size_t bits_len,
                              uint64_t from, uint64_t to, struct plain_read *answer);
+uint32_t plain_framing_read(struct plain_framing *f, const uint8_t *bits, size_t bits_len, uint64_t from, uint64_t to, uint8_t *packet,
+                            struct plain_framing_answer *answer);
 uint32_t plain_totals_note(struct plain_totals *t, const struct plain_read *answer);
 uint32_t plain_line_write(const uint8_t *packet, size_t packet_len, uint8_t *line, size_t line_len, uint64_t *written);
 uint32_t plain_line_read(struct plain_line *r, const uint8_t *line, size_t line_len, uint8_t *packet, struct plain_line_answer *answer);

@@ -328,15 +328,8 @@ uint32_t plain_sender_block(struct plain_sender *s, const uint8_t *store, size_t
 
 /* ---- reading: bodies between flags */
 
-/* The bits kept of a body: one more byte than the longest that passes has, as the closing flag's first bits are kept too. */
-enum { LEAST = 32, MOST = 168, KEPT = MOST + 8 };
-
-/* `window` holds the last 16 bits, the newest highest, and ones before the first bit; `last` the last eight bits of a body. */
-struct framing {
-    uint16_t window;
-    uint8_t inside, count, last;
-    uint8_t body[KEPT / 8];
-};
+/* The bits of a body that passes, and those that are kept of one. */
+enum { LEAST = 32, MOST = 168, KEPT = 8 * sizeof((struct plain_framing *)0)->body };
 
 static int passes(const uint8_t *body, unsigned bits)
 {
@@ -363,7 +356,7 @@ static int judged(const uint8_t *body, unsigned count, unsigned window)
 
 /* Reads the bits from *at to `to` up to the first body that gives something. A bit behind six ones ends a flag or voids the body; of the others
    those in a body are kept, except a 0 behind five ones. */
-static int next_body(struct framing *f, const uint8_t *bits, uint64_t *at, uint64_t to)
+static int next_body(struct plain_framing *f, const uint8_t *bits, uint64_t *at, uint64_t to)
 {
     unsigned window = f->window, inside = f->inside, count = f->count, last = f->last;
     uint64_t i = *at;
@@ -410,7 +403,7 @@ struct hearing {
 struct plain_receiver {
     struct circuits circuits;
     struct hearing slots[CIRCUITS];
-    struct framing framing;
+    struct plain_framing framing;
 };
 
 const size_t plain_receiver_size = sizeof(struct plain_receiver);
@@ -537,6 +530,11 @@ uint32_t plain_receiver_list(struct plain_receiver *r, const uint8_t *list, size
     return list_circuits(&r->circuits, list, list_len);
 }
 
+static int outside(uint64_t from, uint64_t to, size_t bits_len)
+{
+    return from > to || to / 8 > bits_len || (to / 8 == bits_len && to % 8);
+}
+
 uint32_t plain_receiver_read(struct plain_receiver *r, uint8_t *store, size_t store_len, const uint8_t *bits, size_t bits_len,
                              uint64_t from, uint64_t to, struct plain_read *answer)
 {
@@ -546,7 +544,7 @@ uint32_t plain_receiver_read(struct plain_receiver *r, uint8_t *store, size_t st
         return 14;
     if (store_len < RECEIVER_STORE)
         return 5;
-    if (from > to || to / 8 > bits_len || (to / 8 == bits_len && to % 8))
+    if (outside(from, to, bits_len))
         return 15;
     memset(answer, 0, sizeof *answer);
     found = next_body(&r->framing, bits, &at, to);
@@ -554,6 +552,26 @@ uint32_t plain_receiver_read(struct plain_receiver *r, uint8_t *store, size_t st
         hear(r, store, r->framing.body, (size_t)found, answer);
     else if (found < 0)
         answer->notice = SPOILT;
+    answer->bits = at - from;
+    return 0;
+}
+
+uint32_t plain_framing_read(struct plain_framing *f, const uint8_t *bits, size_t bits_len, uint64_t from, uint64_t to, uint8_t *packet,
+                            struct plain_framing_answer *answer)
+{
+    uint64_t at = from;
+    int found;
+    if (outside(from, to, bits_len))
+        return 15;
+    memset(answer, 0, sizeof *answer);
+    found = next_body(f, bits, &at, to);
+    if (found > 0) {
+        answer->body = 2;
+        answer->length = (uint8_t)found;
+        memcpy(packet, f->body, (size_t)found);
+    } else if (found < 0) {
+        answer->body = 1;
+    }
     answer->bits = at - from;
     return 0;
 }

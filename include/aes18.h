@@ -2,21 +2,22 @@
  * The AES18 user-bit channel: messages in the user bits of AES3 audio (ITU-R BS.776 with HDLC framing).
  *
  * A sender lists circuits, takes messages and makes blocks of user bits. A receiver lists circuits and reads bits, cut anywhere, up to the next
- * notice. Totals, kept beside a receiver, are what the notices of a pass add up to at each circuit. Apart from the user bits, packets are written to
- * a serial line and read from one: that to a telemetry terminal, in the octet-stuffed frames of RFC 1662. These are the functions of the static
- * library libaes18.a for x86-64, which `rt staticlib aes18` proves and writes; docs/PROOFS.md says what is proved of them. Document 01 is the
- * specification: refusals have its numbers, and its words stand in quotation marks. The totals are those of document 02, ask 1; the serial line, with
- * refusals 16 and 17, is that of its ask 3.
+ * notice. Totals, kept beside a receiver, are what the notices of a pass add up to at each circuit. A framing lists nothing: it reads bits, cut
+ * anywhere, up to the next packet of whatever circuit, as one looks for the circuits in bits that nobody described. Apart from the user bits, packets
+ * are written to a serial line and read from one: that to a telemetry terminal, in the octet-stuffed frames of RFC 1662. These are the functions of
+ * the static library libaes18.a for x86-64, which `rt staticlib aes18` proves and writes; docs/PROOFS.md says what is proved of them. Document 01 is
+ * the specification: refusals have its numbers, and its words stand in quotation marks. The totals are those of document 02, ask 1; the serial line,
+ * with refusals 16 and 17, is that of its ask 3. No document asks for the framing's call; what it reads is what document 01 says of flags and bodies.
  *
  * What is lent. Every array is lent as a pointer and its length in bytes, for the time of the call. With length 0 any pointer will do, a null
- * pointer too, and is not followed. An array that a call writes (record, totals, block, the store of an offer and of a read, the line of a line
- * write, the packet of a line read, and the answer of a block, a read, a line write and a line read) must not overlap any other array of the same
- * call. Arrays that are only read may overlap each other.
+ * pointer too, and is not followed. An array that a call writes (record, framing, totals, block, the store of an offer and of a read, the line of a
+ * line write, the packet of a framing read and of a line read, and the answer of a block, a read, a framing read, a line write and a line read) must
+ * not overlap any other array of the same call. Arrays that are only read may overlap each other.
  *
  * Ends. All that a sender or a receiver is stands in its record and its store. The calls keep no other state, take no memory from the system
  * and wait for nothing, so calls for different ends may interrupt each other or run at the same time. Each end lends the record as the call
- * before left it, and the same store in all its calls; nobody else writes either in between. A record of totals and that of a line's reader are lent
- * in the same way.
+ * before left it, and the same store in all its calls; nobody else writes either in between. A record of totals, a framing and the record of a
+ * line's reader are lent in the same way.
  *
  * Answers. Every call returns AES18_ACCEPTED or the number of a refusal, for any input; nothing has to be checked before. A refused call leaves
  * every lent byte as it was, but for a refused listing, which writes the record of no circuits.
@@ -58,6 +59,8 @@ extern "C" {
 #define AES18_RECEIVER_STORE 16400
 #define AES18_BLOCK_ANSWER 8
 #define AES18_READ_ANSWER 16
+#define AES18_FRAMING_RECORD 24
+#define AES18_FRAMING_ANSWER 16
 #define AES18_TOTALS_RECORD 64
 #define AES18_LINE_RECORD 24
 #define AES18_LINE_WRITE_ANSWER 8
@@ -89,7 +92,10 @@ extern "C" {
 #define AES18_HIGHEST_CODE 8
 #define AES18_LONGEST_INFORMATION 15
 
-/* A packet of the serial line in bytes, and the longest frame: two bytes for each byte of the longest packet and of its FCS, and two flags. */
+/*
+ * A packet in bytes, as a framing or the reader of a line gives it; and the longest frame of the serial line: two bytes for each byte of the longest
+ * packet and of its FCS, and two flags.
+ */
 #define AES18_SHORTEST_PACKET 2
 #define AES18_LONGEST_PACKET 19
 #define AES18_LONGEST_LINE_FRAME 44
@@ -117,7 +123,7 @@ extern "C" {
 #define AES18_REFUSED_BITS 15       /* "from above to, or to past the bytes lent" */
 #define AES18_REFUSED_LINE 16       /* "output shorter than that": than "the worst case, 2 bytes for each packet and FCS byte plus 2 flags" */
 #define AES18_REFUSED_PACKET 17     /* "a packet outside 2 to 19 bytes, looked at before 16" */
-#define AES18_REFUSED_SHORT 255     /* the record, the answer or the packet's place of a line read is shorter than it has to be */
+#define AES18_REFUSED_SHORT 255     /* the record, the answer, or the packet's place of a framing or line read is shorter than it has to be */
 
 /*
  * Records. A record is a value: it may be copied, and a copy of record and store together is a copy of the end. Its layout is told for those who
@@ -158,6 +164,9 @@ extern "C" {
  *
  * Out of range, and refused by RECORD, are: more than four circuits, circuits that a listing refuses by ADDRESS, EXTENSION or ALIKE, a number of a
  * listed circuit outside what stands here, a circuit last served above 3, a framing that no bits leave, and 2 or more where a byte is 1 or 0.
+ *
+ * A framing alone, 24 bytes, is that of a receiver's record, its bytes 37 to 60: phase, ones, count, and 21 bytes of bits. A fresh one is 24 times 0,
+ * which a caller writes itself. Out of range is one that no bits leave.
  *
  * The record of totals, 64 bytes:
  *   0 to 63  for each circuit number, 0 to 3, 16 bytes:
@@ -278,6 +287,52 @@ uint32_t aes18_receiver_read(uint8_t *record, size_t record_len, uint8_t *store,
 #define AES18_FATE_WHOLE 3  /* the last or only packet of a message, which is handed over */
 #define AES18_FATE_ORPHAN 4 /* a packet between or last, and no message is open */
 #define AES18_FATE_WRONG 5  /* its header or length does not fit; no message is open behind it */
+
+/*
+ * Reads the bits from number `from` on, up to and without number `to`, of the bytes lent. It stops behind the first body that passes or is spoilt, so
+ * where aes18_receiver_read gives a notice, or at the end. Whose packet it is does not matter, and whether it is one that a sender makes: each body
+ * that passes gives its packet. So every packet in a stretch of bits is had by a loop, with one framing for all stretches:
+ *
+ *     uint8_t framing[AES18_FRAMING_RECORD] = {0}, packet[AES18_LONGEST_PACKET], answer[AES18_FRAMING_ANSWER];
+ *     uint32_t refusal;
+ *     uint64_t from;
+ *
+ *     from = 0; (for each stretch)
+ *     do {
+ *         refusal = aes18_framing_read(framing, sizeof framing, bits, bits_len, from, to, packet, sizeof packet, answer, sizeof answer);
+ *         (leave the loop if it is refused)
+ *         from += (the bits read: the number in bytes 8 to 15 of the answer);
+ *         (take the packet, if answer[AES18_FRAMING_BODY] is AES18_FRAMING_PACKET: its first byte is the address)
+ *     } while (answer[AES18_FRAMING_BODY] != AES18_FRAMING_END);
+ *
+ * The next call, with other bytes or the same, goes on as if the bits had never been cut. A cut may be anywhere, inside a flag too.
+ *
+ * The answer, 16 bytes:
+ *   0        END, SPOILT or PACKET
+ *   1        PACKET: the packet's length, 2 to 19; else 0
+ *   2 to 7   0
+ *   8 to 15  the bits read by this call
+ *
+ * The packet, without its FCS, goes to the start of `packet`, which is lent with at least AES18_LONGEST_PACKET bytes. The bytes behind it keep their
+ * values, and so do all at END and SPOILT.
+ *
+ * The framing is the one in a receiver's record, from byte AES18_RECEIVER_FRAMING on. A copy of these 24 bytes that is taken before a read of that
+ * receiver, and lent with the bits that this read says it read, gives the packet that the notice tells of, and ends as the receiver's framing does.
+ * Refusals, in order: SHORT, RECORD, BITS.
+ */
+uint32_t aes18_framing_read(uint8_t *framing, size_t framing_len, const uint8_t *bits, size_t bits_len, uint64_t from, uint64_t to, uint8_t *packet,
+                            size_t packet_len, uint8_t *answer, size_t answer_len);
+
+/* Where the numbers stand in a framing read's answer, and where a receiver's record has its framing. */
+#define AES18_FRAMING_BODY 0
+#define AES18_FRAMING_LENGTH 1
+#define AES18_FRAMING_BITS 8
+#define AES18_RECEIVER_FRAMING 37
+
+/* What a framing read stops at. */
+#define AES18_FRAMING_END 0    /* the bits up to `to` are read */
+#define AES18_FRAMING_SPOILT 1 /* a body that does not pass: the notice SPOILT */
+#define AES18_FRAMING_PACKET 2 /* a body that passes */
 
 /*
  * Notes the notice of a read's answer in a record of totals. A CIRCUIT notice adds at its circuit number:

@@ -13,8 +13,8 @@
 enum { PAGE = 4096, ARENA = 5 * PAGE, BEFORE = 0xA5, OLD = 0x5A };
 
 /*
- * The arrays of a call. RECORD is that of an end, of totals or of a line's reader; INPUT a list, a message, system information, bits, an answer to
- * note, a packet to write or a line to read. What a call makes stands in BLOCK, which has another name where it is a line or a packet.
+ * The arrays of a call. RECORD is that of an end, of totals or of a line's reader, or a framing; INPUT a list, a message, system information, bits, an
+ * answer to note, a packet to write or a line to read. What a call makes stands in BLOCK, which has another name where it is a line or a packet.
  */
 enum { RECORD, STORE, INPUT, BLOCK, ANSWER, ARRAYS, LINE = BLOCK, PACKET = BLOCK };
 
@@ -26,7 +26,7 @@ struct call {
     uint64_t from, to;
 };
 
-/* One of the eight functions, and the arrays that it writes where it accepts and where it refuses. */
+/* One of the nine functions, and the arrays that it writes where it accepts and where it refuses. */
 struct function {
     uint32_t (*run)(const struct call *c, uint8_t *const at[ARRAYS]);
     unsigned writes, writes_refused;
@@ -100,6 +100,12 @@ static uint32_t receiver_read(const struct call *c, uint8_t *const at[ARRAYS])
                                c->length[ANSWER]);
 }
 
+static uint32_t framing_read(const struct call *c, uint8_t *const at[ARRAYS])
+{
+    return aes18_framing_read(at[RECORD], c->length[RECORD], at[INPUT], c->length[INPUT], c->from, c->to, at[PACKET], c->length[PACKET], at[ANSWER],
+                              c->length[ANSWER]);
+}
+
 static uint32_t totals_note(const struct call *c, uint8_t *const at[ARRAYS])
 {
     return aes18_totals_note(at[RECORD], c->length[RECORD], at[INPUT], c->length[INPUT]);
@@ -123,6 +129,8 @@ static const struct function block = {
 static const struct function list_receiver = {receiver_list, 1 << RECORD, 1 << RECORD, AES18_RECEIVER_RECORD, 0, 0};
 static const struct function reading = {
     receiver_read, 1 << RECORD | 1 << STORE | 1 << ANSWER, 0, AES18_RECEIVER_RECORD, AES18_RECEIVER_STORE, AES18_READ_ANSWER};
+static const struct function framing_reading = {
+    framing_read, 1 << RECORD | 1 << PACKET | 1 << ANSWER, 0, AES18_FRAMING_RECORD, 0, AES18_FRAMING_ANSWER};
 static const struct function noting = {totals_note, 1 << RECORD, 0, AES18_TOTALS_RECORD, 0, 0};
 static const struct function line_writing = {line_write, 1 << LINE | 1 << ANSWER, 0, 0, 0, AES18_LINE_WRITE_ANSWER};
 static const struct function line_reading = {
@@ -629,6 +637,249 @@ static void test_notices(void)
     ALL(c.bytes[STORE] + AES18_REGION + 46, OLD, AES18_SYSTEM_PLACE - AES18_REGION - 46);
     EQUAL(c.bytes[STORE] + AES18_SYSTEM_PLACE, (const uint8_t *)"hi", 2);
     ALL(c.bytes[STORE] + AES18_SYSTEM_PLACE + 2, OLD, 14);
+}
+
+/* The bodies of these frames: each packet, or no bytes where the body is spoilt. Number TWENTY_ONE is the first of 21 bytes, a packet of 19 and FCS. */
+static const struct {
+    uint8_t packet[AES18_LONGEST_PACKET + 1];
+    size_t length;
+} bodies[] = {
+    {"\xFF\0\0", 3},
+    {"\x09\x80\0", 3},
+    {"\xFF\xC5\x32hi", 5},
+    {"\x01\x80\x05", 3},
+    {"\x01\x44\x41", 3},
+    {"\x02\xAC\x07\x10\x2E" "abcdefghijklmn", 19},
+    {"\x02\x30\x07opqrstuvwxyzabcd", 19},
+    {"\x02\x74\x07" "efghijklmnopqrst", 19},
+    {"\x02\x74\x07" "efghijklmnopqrst", 19},
+    {"\x01\x8C\0", 3},
+    {{0}, 0},
+};
+
+enum { TWENTY_ONE = 5 };
+
+/* The bits of the frames up to the end of a body, which is where a read gives the notice of that number. */
+static uint64_t body_end(size_t body)
+{
+    uint64_t bits = 0;
+    size_t i;
+
+    for (i = 0; i <= body; i++)
+        bits += number(answers[i] + AES18_READ_BITS, 8);
+    return bits;
+}
+
+/* A fresh framing at the start of the frames. */
+static void prepare_framing(struct call *c)
+{
+    prepare(c, &framing_reading);
+    memset(c->bytes[RECORD], 0, AES18_FRAMING_RECORD);
+    put(c, INPUT, frames, sizeof frames);
+    c->length[PACKET] = AES18_LONGEST_PACKET;
+    c->from = 0;
+    c->to = 8 * sizeof frames;
+}
+
+/* Reads on in the frames up to bit `to`. The bodies on the way are those from number *next on, each at its end. */
+static void read_bodies(int line, struct call *c, uint64_t to, size_t *next)
+{
+    const uint8_t *answer = c->bytes[ANSWER];
+    size_t length;
+
+    c->to = to;
+    do {
+        memset(c->bytes[PACKET], OLD, AES18_LONGEST_PACKET);
+        is(line, call(line, c, &framing_reading), AES18_ACCEPTED);
+        c->from += number(answer + AES18_FRAMING_BITS, 8);
+        length = 0;
+        if (answer[AES18_FRAMING_BODY] != AES18_FRAMING_END) {
+            is(line, *next < COUNT(bodies), 1);
+            if (*next == COUNT(bodies))
+                return;
+            length = bodies[*next].length;
+            is(line, answer[AES18_FRAMING_BODY], length > 0 ? AES18_FRAMING_PACKET : AES18_FRAMING_SPOILT);
+            is(line, c->from, body_end(*next));
+            equal(line, c->bytes[PACKET], bodies[*next].packet, length);
+            ++*next;
+        }
+        is(line, answer[AES18_FRAMING_LENGTH], length);
+        all(line, answer + 2, 0, 6);
+        all(line, c->bytes[PACKET] + length, OLD, AES18_LONGEST_PACKET - length);
+    } while (answer[AES18_FRAMING_BODY] != AES18_FRAMING_END);
+    is(line, c->from, to);
+}
+
+#define READ_BODIES(c, to, next) read_bodies(__LINE__, c, to, next)
+
+/* The frames at once, in two parts cut at every bit of the first bodies up to one of 21 bytes, and one bit at a time. */
+static void test_framing_cut(void)
+{
+    static struct call c;
+    uint64_t cut, end = 8 * sizeof frames, first = body_end(TWENTY_ONE);
+    size_t next = 0;
+
+    prepare_framing(&c);
+    READ_BODIES(&c, end, &next);
+    IS(next, COUNT(bodies));
+    for (cut = 0; cut <= first; cut++) {
+        prepare_framing(&c);
+        next = 0;
+        READ_BODIES(&c, cut, &next);
+        READ_BODIES(&c, first, &next);
+        IS(next, TWENTY_ONE + 1);
+    }
+    prepare_framing(&c);
+    next = 0;
+    for (cut = 0; cut <= end; cut++)
+        READ_BODIES(&c, cut, &next);
+    IS(next, COUNT(bodies));
+}
+
+/* Everything is wrong with a framing read of two bytes at first; each array is one byte too short and then has none. */
+static void test_framing_refusals(void)
+{
+    static const int lent[] = {RECORD, PACKET, ANSWER};
+    static const uint8_t end[AES18_FRAMING_ANSWER] = {AES18_FRAMING_END}, behind_ones[AES18_FRAMING_RECORD] = {1, 6};
+    static struct call c;
+    size_t i;
+
+    prepare_framing(&c);
+    c.length[INPUT] = 2;
+    c.from = c.to = UINT64_MAX;
+    c.bytes[RECORD][0] = 5;
+    for (i = 0; i < COUNT(lent); i++) {
+        size_t length = c.length[lent[i]];
+
+        c.length[lent[i]] = length - 1;
+        CALL(&c, &framing_reading, AES18_REFUSED_SHORT);
+        c.length[lent[i]] = 0;
+        CALL(&c, &framing_reading, AES18_REFUSED_SHORT);
+        c.length[lent[i]] = length;
+    }
+    CALL(&c, &framing_reading, AES18_REFUSED_RECORD);
+    put(&c, RECORD, behind_ones, sizeof behind_ones);
+    CALL(&c, &framing_reading, AES18_REFUSED_BITS);
+    c.from = 0;
+    TOO_HIGH(&c, &framing_reading, &c.to, 16, AES18_REFUSED_BITS);
+    TOO_HIGH(&c, &framing_reading, &c.from, 16, AES18_REFUSED_BITS);
+    CALL(&c, &framing_reading, AES18_ACCEPTED);
+    EQUAL(c.bytes[ANSWER], end, sizeof end);
+    c.length[INPUT] = 0;
+    c.from = 0;
+    TOO_HIGH(&c, &framing_reading, &c.to, 0, AES18_REFUSED_BITS);
+    CALL(&c, &framing_reading, AES18_ACCEPTED);
+    EQUAL(c.bytes[RECORD], behind_ones, sizeof behind_ones);
+}
+
+/* The framings that a receiver's record must not have are refused, and such at the edge of the range are not. */
+static void test_framings_outside(void)
+{
+    static const uint8_t inside[][4] = {{0}, {1, 6}, {2, 6}, {3, 6, 169}, {3, 0, 1, 1}, {4, 0, 5, 0x1F}, {4, 0, 6, 0x3E}, {4, 6, 169}};
+    static struct call c;
+    size_t i;
+
+    for (i = 0; i < COUNT(receivers_outside); i++) {
+        if (receivers_outside[i].place < AES18_RECEIVER_FRAMING)
+            continue;
+        prepare_framing(&c);
+        memcpy(c.bytes[RECORD] + receivers_outside[i].place - AES18_RECEIVER_FRAMING, receivers_outside[i].bytes, receivers_outside[i].length);
+        CALL(&c, &framing_reading, AES18_REFUSED_RECORD);
+    }
+    for (i = 0; i < COUNT(inside); i++) {
+        prepare_framing(&c);
+        memcpy(c.bytes[RECORD], inside[i], sizeof inside[i]);
+        CALL(&c, &framing_reading, AES18_ACCEPTED);
+    }
+}
+
+/* Reads a packet of 19 bytes with these lengths of framing, packet and answer: it is read, and what stands behind them is kept, or nothing changes. */
+static void read_longest(size_t framing, size_t packet, size_t answer)
+{
+    static const uint8_t behind_flag[AES18_FRAMING_RECORD] = {2};
+    static const uint8_t answered[AES18_FRAMING_ANSWER] = {AES18_FRAMING_PACKET, AES18_LONGEST_PACKET, 0, 0, 0, 0, 0, 0, 8 + 168 + 8};
+    static struct call c;
+    int fits = framing >= AES18_FRAMING_RECORD && packet >= AES18_LONGEST_PACKET && answer >= AES18_FRAMING_ANSWER;
+
+    prepare_framing(&c);
+    c.from = body_end(TWENTY_ONE - 1) - 8;
+    c.length[RECORD] = framing;
+    c.length[PACKET] = packet;
+    c.length[ANSWER] = answer;
+    CALL(&c, &framing_reading, fits ? AES18_ACCEPTED : AES18_REFUSED_SHORT);
+    if (fits) {
+        EQUAL(c.bytes[RECORD], behind_flag, sizeof behind_flag);
+        EQUAL(c.bytes[PACKET], bodies[TWENTY_ONE].packet, AES18_LONGEST_PACKET);
+        EQUAL(c.bytes[ANSWER], answered, sizeof answered);
+        ALL(c.bytes[RECORD] + AES18_FRAMING_RECORD, OLD, framing - AES18_FRAMING_RECORD);
+        ALL(c.bytes[PACKET] + AES18_LONGEST_PACKET, OLD, packet - AES18_LONGEST_PACKET);
+        ALL(c.bytes[ANSWER] + AES18_FRAMING_ANSWER, OLD, answer - AES18_FRAMING_ANSWER);
+    }
+}
+
+/* Framings, packets and answers of all lengths. */
+static void test_framing_lengths(void)
+{
+    size_t i;
+
+    for (i = 0; i <= AES18_FRAMING_RECORD + 5; i++)
+        read_longest(i, AES18_LONGEST_PACKET, AES18_FRAMING_ANSWER);
+    for (i = 0; i <= AES18_LONGEST_PACKET + 5; i++)
+        read_longest(AES18_FRAMING_RECORD, i, AES18_FRAMING_ANSWER);
+    for (i = 0; i <= AES18_FRAMING_ANSWER + 5; i++)
+        read_longest(AES18_FRAMING_RECORD, AES18_LONGEST_PACKET, i);
+    read_longest(0, 0, 0);
+    read_longest(AES18_FRAMING_RECORD + 5, AES18_LONGEST_PACKET + 5, AES18_FRAMING_ANSWER + 5);
+}
+
+/* The framing in the record of a receiver that stands at some bit goes on from there as the receiver does. */
+static void test_framing_of_receiver(void)
+{
+    static struct call r, c;
+    uint64_t cut, end = 8 * sizeof frames;
+    size_t i, next;
+
+    for (cut = 0; cut <= end; cut += 7) {
+        prepare_listed(&r, &list_receiver, &reading, two_circuits, sizeof two_circuits);
+        put(&r, INPUT, frames, sizeof frames);
+        r.from = 0;
+        r.to = cut;
+        for (next = 0; r.from < cut; next += r.bytes[ANSWER][AES18_READ_NOTICE] != AES18_NOTICE_END)
+            READ_ON(&r);
+        prepare_framing(&c);
+        put(&c, RECORD, r.bytes[RECORD] + AES18_RECEIVER_FRAMING, AES18_FRAMING_RECORD);
+        c.from = cut;
+        for (i = next; i < COUNT(bodies) && i < next + 2; i++) {
+            r.to = c.to = end;
+            READ_ON(&r);
+            CALL(&c, &framing_reading, AES18_ACCEPTED);
+            c.from += number(c.bytes[ANSWER] + AES18_FRAMING_BITS, 8);
+            IS(c.from, r.from);
+            IS(c.bytes[ANSWER][AES18_FRAMING_LENGTH], bodies[i].length);
+            EQUAL(c.bytes[PACKET], bodies[i].packet, bodies[i].length);
+            EQUAL(c.bytes[RECORD], r.bytes[RECORD] + AES18_RECEIVER_FRAMING, AES18_FRAMING_RECORD);
+        }
+    }
+}
+
+/* The arrays of a call side by side: the framing inside a receiver's record, of which nothing else changes, the packet and the answer behind it. */
+static void test_framing_side_by_side(void)
+{
+    enum { PLACE = AES18_RECEIVER_RECORD, ANSWERED = PLACE + AES18_LONGEST_PACKET, END = ANSWERED + AES18_FRAMING_ANSWER };
+    static const uint8_t behind_flag[AES18_FRAMING_RECORD] = {2};
+    uint8_t bytes[END];
+
+    memset(bytes, OLD, sizeof bytes);
+    memset(bytes + AES18_RECEIVER_FRAMING, 0, AES18_FRAMING_RECORD);
+    IS(AES18_RECEIVER_FRAMING + AES18_FRAMING_RECORD, AES18_RECEIVER_RECORD);
+    IS(aes18_framing_read(bytes + AES18_RECEIVER_FRAMING, AES18_FRAMING_RECORD, frames, sizeof frames, 0, 8 * sizeof frames, bytes + PLACE,
+                          AES18_LONGEST_PACKET, bytes + ANSWERED, AES18_FRAMING_ANSWER), AES18_ACCEPTED);
+    ALL(bytes, OLD, AES18_RECEIVER_FRAMING);
+    EQUAL(bytes + AES18_RECEIVER_FRAMING, behind_flag, sizeof behind_flag);
+    EQUAL(bytes + PLACE, bodies[0].packet, bodies[0].length);
+    ALL(bytes + PLACE + bodies[0].length, OLD, AES18_LONGEST_PACKET - bodies[0].length);
+    IS(bytes[ANSWERED + AES18_FRAMING_BODY], AES18_FRAMING_PACKET);
+    IS(number(bytes + ANSWERED + AES18_FRAMING_BITS, 8), body_end(0));
 }
 
 /* An orphan behind one lost packet, with bits read and bytes behind the answer. */
@@ -1203,6 +1454,12 @@ static void test_all(uint8_t *place)
     test_records();
     test_framing();
     test_notices();
+    test_framing_cut();
+    test_framing_refusals();
+    test_framings_outside();
+    test_framing_lengths();
+    test_framing_of_receiver();
+    test_framing_side_by_side();
     test_noting_lengths();
     test_noting_side_by_side();
     test_figures();

@@ -2,6 +2,7 @@
 
 mod blocks;
 mod calls;
+mod framings;
 mod lines;
 mod noise;
 mod notes;
@@ -12,12 +13,13 @@ mod stack;
 mod table;
 
 use aes18::{
-    LINE_RECORD, RECEIVER_RECORD, RECEIVER_STORE, SENDER_RECORD, SENDER_STORE, TOTALS_RECORD,
+    FRAMING_RECORD, LINE_RECORD, RECEIVER_RECORD, RECEIVER_STORE, SENDER_RECORD, SENDER_STORE,
+    TOTALS_RECORD,
 };
 use noise::Noise;
 use race::{Race, TURNS};
 use reads::Channel;
-use sides::{Library, LineSide, Plain};
+use sides::{FramingSide, Library, LineSide, Plain};
 use stack::Work;
 use std::fs;
 use std::process::ExitCode;
@@ -41,6 +43,7 @@ fn run() -> Result<(), String> {
     let mut making = blocks::races(&mut noise);
     let clean = Channel::clean(&making[0].case).map_err(refused)?;
     let mut reading = reads::races(&clean, &mut noise).map_err(refused)?;
+    let mut scanning = framings::races(&reading);
     let mut noting = notes::races(&reading[1].case).map_err(refused)?;
     let mut calling = calls::races(&clean);
     let mut writing = lines::writing(&mut noise).map_err(refused)?;
@@ -48,6 +51,7 @@ fn run() -> Result<(), String> {
     head()?;
     check(&mut making)?;
     check(&mut reading)?;
+    check(&mut scanning)?;
     check(&mut noting)?;
     check(&mut calling)?;
     check(&mut writing)?;
@@ -55,6 +59,7 @@ fn run() -> Result<(), String> {
     say("Checked: the sides give the same blocks, answers, messages, stores, totals, lines and packets in every case, and again after every turn.")?;
     time("Block making", "bit", &mut making)?;
     time("Reading", "bit", &mut reading)?;
+    time("Framing alone", "bit", &mut scanning)?;
     time("Noting", "call", &mut noting)?;
     time("Calls without work", "call", &mut calling)?;
     time("Line writing", "byte", &mut writing)?;
@@ -86,7 +91,7 @@ fn head() -> Result<(), String> {
         "plain C    bench/plain.c; a record is a struct, checked in every call but for its framing",
     )?;
     say(&format!("           {gcc}, {flags}"))?;
-    say("reference  package reference/; an end is a value of its own, not checked; not timed at the serial line")?;
+    say("reference  package reference/; an end is a value of its own, not checked; not timed at the framing alone and the serial line")?;
     say(&format!("           {rustc}, --release"))?;
     say(&format!(
         "Each figure is the best of {TURNS} turns. The sides take turns, in both orders."
@@ -131,6 +136,8 @@ fn sizes([plain_sender, plain_receiver]: [usize; 2]) -> Result<(), String> {
     table::bytes_head("Lent by the caller, bytes")?;
     table::bytes("sender's record", SENDER_RECORD, plain_sender)?;
     table::bytes("receiver's record", RECEIVER_RECORD, plain_receiver)?;
+    let plain_framing = size_of::<<Plain as FramingSide>::Framing>();
+    table::bytes("framing", FRAMING_RECORD, plain_framing)?;
     table::bytes("record of totals", TOTALS_RECORD, TOTALS_RECORD)?;
     let plain_line = size_of::<<Plain as LineSide>::Line>();
     table::bytes("record of a line's reader", LINE_RECORD, plain_line)?;

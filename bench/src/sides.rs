@@ -18,6 +18,11 @@ pub trait Side {
     type Totals: Totals;
 }
 
+/// A side that has the framing alone too.
+pub trait FramingSide: Side {
+    type Framing: Framing;
+}
+
 /// A side that has the serial line too.
 pub trait LineSide: Side {
     type Line: Line;
@@ -34,6 +39,16 @@ pub trait Sender: Default {
 pub trait Receiver: Default {
     fn list(&mut self, list: &[u8]) -> Result<(), u32>;
     fn read(&mut self, store: &mut [u8], bits: &[u8], part: Part) -> Result<ReadAnswer, u32>;
+}
+
+/// A framing, fresh at first.
+pub trait Framing: Default {
+    fn read(
+        &mut self,
+        bits: &[u8],
+        part: Part,
+        packet: &mut [u8; LONGEST_PACKET],
+    ) -> Result<FramingAnswer, u32>;
 }
 
 /// Totals, empty at first.
@@ -101,6 +116,29 @@ impl ReadAnswer {
         let start = aes18::REGION * usize::from(number);
         let length = usize::from(u16::from_le_bytes([low, high]));
         (notice == 5 && fate == 3).then_some(start..start + length)
+    }
+}
+
+/// The answer of a framing's read, as the library writes it.
+#[derive(Clone, Copy, Default, PartialEq, Eq)]
+#[repr(C, align(8))]
+pub struct FramingAnswer(pub [u8; 16]);
+
+impl FramingAnswer {
+    /// Whether it stopped at the end of the bits.
+    pub fn is_end(&self) -> bool {
+        self.0[0] == 0
+    }
+
+    /// The length of the packet, or 0.
+    pub fn packet(&self) -> usize {
+        usize::from(self.0[1])
+    }
+
+    /// The bits read.
+    pub fn bits(&self) -> u64 {
+        let [_, _, _, _, _, _, _, _, bits @ ..] = self.0;
+        u64::from_le_bytes(bits)
     }
 }
 

@@ -1,12 +1,13 @@
 //! How deep the calls go on the stack: each runs on a stack of its own that is filled with a pattern beforehand (stack.c).
 
 use crate::blocks::{make, Made, Traffic};
+use crate::framings::{scan, Scanned};
 use crate::lines::{take, write, LineBytes, Packets, Taken, Written};
 use crate::notes::{answers, note, Noted};
 use crate::reads::Channel;
 use crate::sides::{
-    Ask, BlockAnswer, Line, LineAnswer, LineSide, Offer, Part, ReadAnswer, Receiver, Sender, Side,
-    Totals,
+    Ask, BlockAnswer, Framing, FramingAnswer, FramingSide, Line, LineAnswer, LineSide, Offer, Part,
+    ReadAnswer, Receiver, Sender, Side, Totals,
 };
 use aes18::{LONGEST_PACKET, TOTALS_RECORD};
 use std::cell::Cell;
@@ -14,12 +15,13 @@ use std::ffi::c_void;
 use std::marker::PhantomData;
 
 /// The names of the calls.
-pub const CALLS: [&str; 8] = [
+pub const CALLS: [&str; 9] = [
     "sender_list",
     "sender_offer",
     "sender_block",
     "receiver_list",
     "receiver_read",
+    "framing_read",
     "totals_note",
     "line_write",
     "line_read",
@@ -33,12 +35,14 @@ enum Call {
     SenderBlock,
     ReceiverList,
     ReceiverRead,
+    FramingRead,
     TotalsNote,
     LineWrite,
     LineRead,
 }
 
-/// What the calls are made over: blocks of the traffic are made, the channel is read and noted, the packets are written and the line is read.
+/// What the calls are made over: blocks of the traffic are made, the channel is read by a receiver, noted, and read by a framing, the packets are
+/// written and the line is read.
 #[derive(Clone, Copy)]
 pub struct Work<'a> {
     pub traffic: &'a Traffic,
@@ -53,11 +57,12 @@ thread_local! {
 }
 
 /// The bytes that the deepest of each of these calls touches while the work is done.
-pub fn depths<S: LineSide>(work: Work<'_>) -> Result<[usize; CALLS.len()], u32> {
+pub fn depths<S: FramingSide + LineSide>(work: Work<'_>) -> Result<[usize; CALLS.len()], u32> {
     DEEPEST.set([0; CALLS.len()]);
     make::<Painted<S>>(work.traffic, &mut Made::default())?;
     let answers = answers::<Painted<S>>(work.channel)?;
     note::<Painted<S>>(&answers, &mut Noted::default())?;
+    scan::<Painted<S>>(work.channel, &mut Scanned::default())?;
     write::<Painted<S>>(work.packets, &mut Written::default())?;
     take::<Painted<S>>(work.line, &mut Taken::default())?;
     Ok(DEEPEST.get())
@@ -95,6 +100,10 @@ impl<S: Side> Side for Painted<S> {
     type Totals = PaintedTotals<S::Totals>;
 }
 
+impl<S: FramingSide> FramingSide for Painted<S> {
+    type Framing = PaintedFraming<S::Framing>;
+}
+
 impl<S: LineSide> LineSide for Painted<S> {
     type Line = PaintedLine<S::Line>;
 }
@@ -126,6 +135,20 @@ impl<E: Receiver> Receiver for PaintedReceiver<E> {
 
     fn read(&mut self, store: &mut [u8], bits: &[u8], part: Part) -> Result<ReadAnswer, u32> {
         painted(Call::ReceiverRead, || self.0.read(store, bits, part))
+    }
+}
+
+#[derive(Default)]
+struct PaintedFraming<E>(E);
+
+impl<E: Framing> Framing for PaintedFraming<E> {
+    fn read(
+        &mut self,
+        bits: &[u8],
+        part: Part,
+        packet: &mut [u8; LONGEST_PACKET],
+    ) -> Result<FramingAnswer, u32> {
+        painted(Call::FramingRead, || self.0.read(bits, part, packet))
     }
 }
 

@@ -236,6 +236,42 @@ impl Both {
         Ok(number)
     }
 
+    pub fn framing_read(
+        &mut self,
+        record: &mut [u8],
+        call: ReadCall<'_>,
+        packet: &mut [u8],
+        answer: &mut [u8],
+    ) -> Compared<u32> {
+        let before = record.to_vec();
+        let (mut copy, mut packet_copy, mut answer_copy) = (
+            Guarded::of(record),
+            Guarded::of(packet),
+            Guarded::of(answer),
+        );
+        let library =
+            self.library
+                .framing_read(copy.lent(), call, packet_copy.lent(), answer_copy.lent());
+        let reference = calls::framing_read(record, call, packet, answer);
+        let number = self.compare(Call {
+            function: Function::FramingRead,
+            given: &|| format!("framing {}, {call:?}", hex(&before)),
+            library,
+            reference,
+            left: &[
+                ("the framing", &copy, record),
+                ("the answer's bytes", &answer_copy, answer),
+                ("the packet", &packet_copy, packet),
+            ],
+        })?;
+        let framings = &mut self.tally.framings;
+        match number {
+            0 => framings.read(&before, call, record, answer),
+            _ => framings.refused(number, &before, call, [packet.len(), answer.len()]),
+        }
+        Ok(number)
+    }
+
     pub fn totals_note(&mut self, totals: &mut [u8], answer: &[u8]) -> Compared<u32> {
         let before = totals.to_vec();
         let mut copy = Guarded::of(totals);
@@ -308,15 +344,15 @@ impl Both {
             ],
         })?;
         if number == 0 {
-            let bytes = &line[..line_bytes(answer)];
+            let bytes = &line[..read_of(answer)];
             self.tally.lines.read(&before, bytes, record);
         }
         Ok(number)
     }
 }
 
-/// How many bytes of a line the answer says were read.
-pub fn line_bytes(answer: &[u8]) -> usize {
+/// How many bytes of a line, or bits, the answer says were read.
+pub fn read_of(answer: &[u8]) -> usize {
     let high_first = answer[8..16].iter().rev();
     high_first.fold(0, |number, &byte| number << 8 | usize::from(byte))
 }

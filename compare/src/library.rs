@@ -132,6 +132,31 @@ impl Library {
         }
     }
 
+    pub fn framing_read(
+        &mut self,
+        record: &mut [u8],
+        call: ReadCall<'_>,
+        packet: &mut [u8],
+        answer: &mut [u8],
+    ) -> u32 {
+        self.nulls = !self.nulls;
+        // SAFETY: as in `sender_list`.
+        unsafe {
+            ffi::aes18_framing_read(
+                self.write(record),
+                record.len(),
+                self.read(call.bits),
+                call.bits.len(),
+                call.from,
+                call.to,
+                self.write(packet),
+                packet.len(),
+                self.write(answer),
+                answer.len(),
+            )
+        }
+    }
+
     pub fn totals_note(&mut self, totals: &mut [u8], answer: &[u8]) -> u32 {
         self.nulls = !self.nulls;
         // SAFETY: as in `sender_list`.

@@ -19,7 +19,9 @@ use random::Random;
 use std::env;
 use std::process::ExitCode;
 use std::time::{Duration, Instant, SystemTime, UNIX_EPOCH};
-use trials::{cuts, lengths, lines, listing, packets, passes, reading, records, sending, totals};
+use trials::{
+    cuts, framings, lengths, lines, listing, packets, passes, reading, records, sending, totals,
+};
 
 /// A trial under its name, and how often it is made in a lap.
 type Trial = (
@@ -28,7 +30,7 @@ type Trial = (
     fn(&mut Both, &mut Random) -> Compared<()>,
 );
 
-const TRIALS: [Trial; 20] = [
+const TRIALS: [Trial; 25] = [
     ("listing", 10, listing::any),
     ("sending", 20, sending::run),
     ("reading", 10, reading::run),
@@ -57,6 +59,15 @@ const TRIALS: [Trial; 20] = [
     ("any line", 60, lines::any_line),
     ("any line behind any record", 60, lines::any_record),
     ("a line cut at every place", 2, lines::every_place),
+    ("any framing in pieces", 20, framings::any),
+    ("a framing cut at every place", 1, framings::every_place),
+    ("any framing's record", 60, framings::any_record),
+    (
+        "every byte of a framing's record",
+        1,
+        framings::every_record_byte,
+    ),
+    ("the framing of a receiver", 20, framings::of_receiver),
 ];
 /// Laps of the gate.
 const LAPS: u64 = 16;
@@ -87,6 +98,7 @@ fn gate() -> Result<(), String> {
     let mut both = Both::default();
     listing::all(&mut both).map_err(|difference| show(0, "every circuit", 0, &difference))?;
     packets::all(&mut both).map_err(|difference| show(0, "every packet", 0, &difference))?;
+    framings::all(&mut both).map_err(|difference| show(0, "every framing", 0, &difference))?;
     totals::all(&mut both).map_err(|difference| show(0, "every answer", 0, &difference))?;
     lines::all(&mut both).map_err(|difference| show(0, "every byte of a line", 0, &difference))?;
     lengths::all(&mut both, &mut Random::new(0))

@@ -1,10 +1,12 @@
 //! What was seen: how many calls of each function, how often each answer, notice and fate.
 
+mod framings;
 mod lines;
 
 use aes18_reference::calls::answered_notice;
 use aes18_reference::receiver::{Fate, Notice};
 use aes18_reference::totals::{Figures, Totals, MOST};
+use framings::Framings;
 use lines::Lines;
 use std::collections::BTreeMap;
 use std::fmt;
@@ -16,18 +18,20 @@ pub enum Function {
     SenderBlock,
     ReceiverList,
     ReceiverRead,
+    FramingRead,
     TotalsNote,
     LineWrite,
     LineRead,
 }
 
 /// Each function with the numbers it can answer.
-const ANSWERS: [(Function, &[u32]); 8] = [
+const ANSWERS: [(Function, &[u32]); 9] = [
     (Function::SenderList, &[0, 1, 2, 3, 4, 255]),
     (Function::SenderOffer, &[0, 5, 6, 7, 8, 9, 10, 14, 255]),
     (Function::SenderBlock, &[0, 5, 11, 12, 13, 14, 255]),
     (Function::ReceiverList, &[0, 1, 2, 3, 4, 255]),
     (Function::ReceiverRead, &[0, 5, 14, 15, 255]),
+    (Function::FramingRead, &[0, 14, 15, 255]),
     (Function::TotalsNote, &[0, 255]),
     (Function::LineWrite, &[0, 16, 17, 255]),
     (Function::LineRead, &[0, 255]),
@@ -209,6 +213,7 @@ pub struct Tally {
     notices: [u64; 6],
     fates: [u64; 6],
     pub cuts: Cuts,
+    pub framings: Framings,
     pub noted: Noted,
     pub lines: Lines,
     pub claim: Claim,
@@ -249,10 +254,18 @@ impl Tally {
         answers
             .chain(notices)
             .chain(self.cuts.missing())
+            .chain(self.framings.missing())
             .chain(self.noted.missing())
             .chain(self.lines.missing())
             .chain(few)
             .collect()
+    }
+}
+
+/// Adds 1 to each count of what was seen.
+fn add<const N: usize>(counts: &mut [u64; N], seen: [bool; N]) {
+    for (count, seen) in counts.iter_mut().zip(seen) {
+        *count += u64::from(seen);
     }
 }
 
@@ -289,6 +302,7 @@ impl fmt::Display for Tally {
         writeln!(out, "notices: {}", line(&NOTICES, &self.notices))?;
         writeln!(out, "fates: {}", line(&FATES, &self.fates))?;
         writeln!(out, "{}", self.cuts)?;
+        writeln!(out, "{}", self.framings)?;
         writeln!(out, "{}", self.noted)?;
         writeln!(out, "{}", self.lines)?;
         write!(out, "{}", self.claim)

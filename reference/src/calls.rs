@@ -1,6 +1,9 @@
 //! The functions of the C interface: a record is given as bytes, and the answer is 0, or the number of a refusal, or 255 where a record, an
 //! answer or the place for a packet is too short. An end is built from the bytes, makes the call, and writes the bytes back.
 
+use crate::framing::{self, Framing};
+use crate::hdlc::Judged;
+use crate::history::FRAMING;
 use crate::line::{self, LINE_RECORD, LONGEST_PACKET};
 use crate::packet::System;
 use crate::receiver::{Fate, Notice, Read, Receiver};
@@ -12,6 +15,8 @@ use crate::totals::{Totals, TOTALS_RECORD};
 pub const BLOCK_ANSWER: usize = 8;
 /// Bytes of the answer of reading.
 pub const READ_ANSWER: usize = 16;
+/// Bytes of the answer of a framing's read.
+pub const FRAMING_ANSWER: usize = 16;
 /// Bytes of the answer of writing to a line.
 pub const LINE_WRITE_ANSWER: usize = 8;
 /// Bytes of the answer of reading from a line.
@@ -208,6 +213,40 @@ pub fn receiver_read(
         let read = receiver.read(store, call.bits, call.from, call.to)?;
         record[..RECEIVER_RECORD].copy_from_slice(&receiver.record());
         answer[..READ_ANSWER].copy_from_slice(&read_answer(&read));
+        Ok(())
+    });
+    number(&read)
+}
+
+/// The bytes that a framing's read answers: what it stopped at, the packet's length, and bits read.
+pub fn framing_answer(read: &framing::Read) -> [u8; FRAMING_ANSWER] {
+    let mut answer = [0; FRAMING_ANSWER];
+    match &read.body {
+        Judged::Nothing => answer[0] = 0,
+        Judged::Spoilt => answer[0] = 1,
+        Judged::Packet(packet) => answer[..2].copy_from_slice(&[2, packet.len() as u8]),
+    }
+    answer[8..].copy_from_slice(&read.bits.to_le_bytes());
+    answer
+}
+
+pub fn framing_read(
+    record: &mut [u8],
+    call: ReadCall<'_>,
+    packet: &mut [u8],
+    answer: &mut [u8],
+) -> u32 {
+    let room = packet.len() >= LONGEST_PACKET && answer.len() >= FRAMING_ANSWER;
+    let Some(record) = record.first_chunk_mut::<FRAMING>().filter(|_| room) else {
+        return TOO_SHORT;
+    };
+    let read = Framing::resume(record).and_then(|mut framing| {
+        let read = framing.read(call.bits, call.from, call.to)?;
+        *record = framing.record();
+        answer[..FRAMING_ANSWER].copy_from_slice(&framing_answer(&read));
+        if let Judged::Packet(found) = read.body {
+            packet[..found.len()].copy_from_slice(&found);
+        }
         Ok(())
     });
     number(&read)

@@ -1,4 +1,4 @@
-//! What a receiver remembers of the bits it has read: the bits themselves, as far back as they matter.
+//! What a receiver or a framing remembers of the bits it has read: the bits themselves, as far back as they matter.
 
 use crate::bits::{bits_of, bytes_of};
 use crate::hdlc::{stuff, unstuff, FLAG};
@@ -37,6 +37,11 @@ impl History {
         }
         self.trim();
         None
+    }
+
+    /// The bits that it remembers.
+    pub fn bits(&self) -> &[bool] {
+        &self.bits
     }
 
     fn in_body(&self) -> bool {

@@ -2,7 +2,9 @@
 //! other, which is what [`ffi`] asks for.
 
 use crate::ffi;
-use crate::lengths::{LINE_RECORD, LONGEST_PACKET, RECEIVER_RECORD, SENDER_RECORD, TOTALS_RECORD};
+use crate::lengths::{
+    FRAMING_RECORD, LINE_RECORD, LONGEST_PACKET, RECEIVER_RECORD, SENDER_RECORD, TOTALS_RECORD,
+};
 use crate::refusal::Refusal;
 use crate::system::SystemPacket;
 
@@ -108,6 +110,33 @@ pub(crate) fn receiver_read(
             bits.len(),
             from,
             to,
+            answer.as_mut_ptr(),
+            answer.len(),
+        )
+    };
+    Refusal::answered(number).map(|()| answer)
+}
+
+/// Reads up to the first body that passes or is spoilt and returns the answer's bytes.
+pub(crate) fn framing_read(
+    framing: &mut [u8; FRAMING_RECORD],
+    bits: &[u8],
+    from: u64,
+    to: u64,
+    packet: &mut [u8; LONGEST_PACKET],
+) -> Result<[u8; 16], Refusal> {
+    let mut answer = [0; 16];
+    // SAFETY: as said at the head of this file.
+    let number = unsafe {
+        ffi::aes18_framing_read(
+            framing.as_mut_ptr(),
+            framing.len(),
+            bits.as_ptr(),
+            bits.len(),
+            from,
+            to,
+            packet.as_mut_ptr(),
+            packet.len(),
             answer.as_mut_ptr(),
             answer.len(),
         )

@@ -1,14 +1,14 @@
 //! The functions of the proved static library, as C sees them.
 //!
 //! A slice is a pointer and a length; a pointer whose length is 0 is not read and may be null. Each function answers 0 or a refusal's number, or
-//! 255 where the record, the answer or the packet of a line read is shorter than it has to be, and then it reads and writes nothing. Any numbers and
-//! any bytes may be passed.
+//! 255 where the record, the answer or the packet of a framing's or a line's read is shorter than it has to be, and then it reads and writes nothing.
+//! Any numbers and any bytes may be passed.
 //!
 //! # Safety
 //!
 //! Each pointer must be valid for its length: for reads and writes where it is `*mut`, for reads where it is `*const`. A slice that is written (a
-//! record, totals, the store of an offer or a read, a block, the line of a line write, the packet of a line read, the answer of a block, a read, a
-//! line write or a line read) must overlap no other slice of the call.
+//! record, a framing, totals, the store of an offer or a read, a block, the line of a line write, the packet of a framing's or a line's read, the
+//! answer of a block, a read, a framing's read, a line write or a line read) must overlap no other slice of the call.
 
 extern "C" {
     /// Lists a sender's circuits, three bytes each, and writes its record.
@@ -73,6 +73,23 @@ extern "C" {
         bits_len: usize,
         from: u64,
         to: u64,
+        answer: *mut u8,
+        answer_len: usize,
+    ) -> u32;
+
+    /// Reads bits `from` to `to` up to the first body that passes or is spoilt. The packet of one that passes goes to the start of `packet`, 19 bytes
+    /// or more. The framing, 24 bytes, is what is kept between one bit and the next; 24 zeros are a fresh one, and bytes 37 to 60 of a receiver's
+    /// record are that receiver's. The answer, 16 bytes: byte 0 what it stopped at (0 End, 1 Spoilt, 2 Packet); byte 1 the packet's length; bytes 8 to
+    /// 15 the bits read, lowest first; what does not apply is 0.
+    pub fn aes18_framing_read(
+        framing: *mut u8,
+        framing_len: usize,
+        bits: *const u8,
+        bits_len: usize,
+        from: u64,
+        to: u64,
+        packet: *mut u8,
+        packet_len: usize,
         answer: *mut u8,
         answer_len: usize,
     ) -> u32;

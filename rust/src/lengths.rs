@@ -16,11 +16,13 @@ pub const SENDER_RECORD: usize = 46;
 pub const RECEIVER_RECORD: usize = 61;
 /// Bytes of a record of totals.
 pub const TOTALS_RECORD: usize = 64;
+/// Bytes of the record of a framing.
+pub const FRAMING_RECORD: usize = 24;
 /// Bytes of the record of a serial line's reader.
 pub const LINE_RECORD: usize = 24;
-/// Bytes of the shortest packet of the serial line.
+/// Bytes of the shortest packet that a frame holds.
 pub const SHORTEST_PACKET: usize = 2;
-/// Bytes of the longest packet of the serial line.
+/// Bytes of the longest packet that a frame holds.
 pub const LONGEST_PACKET: usize = 19;
 /// Bytes of the longest frame of the serial line: two for each byte of the longest packet and of its FCS, and two flags.
 pub const LONGEST_LINE_FRAME: usize = 2 * (LONGEST_PACKET + 2) + 2;

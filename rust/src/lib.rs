@@ -4,7 +4,8 @@
 //! A [`Sender`] lists up to four circuits, takes messages of up to 4,094 bytes there and makes blocks of user bits. A [`Receiver`] lists circuits
 //! and reads user bits, cut anywhere, up to the next [`Notice`]. Both are plain values. The bytes that they work on are lent in each call: a
 //! store of [`SENDER_STORE`] or [`RECEIVER_STORE`] bytes, the same one at every call of that end, which nobody else writes in between. [`Totals`]
-//! beside a receiver are what its notices add up to.
+//! beside a receiver are what its notices add up to. A [`Framing`] reads every [`Packet`] that passes in user bits, whatever its circuit, without a
+//! store or a list.
 //!
 //! Beside the user bits there is the serial line to a telemetry terminal: packets of 2 to 19 bytes as the octet-stuffed frames of RFC 1662.
 //! [`write_line`] writes a packet's frame, and a [`LineReader`] reads the packets of a line that is cut anywhere.
@@ -72,9 +73,11 @@
 mod calls;
 mod circuit;
 pub mod ffi;
+mod framing;
 mod lengths;
 mod line;
 mod notice;
+mod packet;
 mod receiver;
 mod refusal;
 mod sender;
@@ -82,14 +85,16 @@ mod system;
 mod totals;
 
 pub use circuit::Circuit;
+pub use framing::{Body, Framing, FramingRead};
 pub use lengths::{
-    LINE_RECORD, LONGEST_LINE_FRAME, LONGEST_MESSAGE, LONGEST_PACKET, RECEIVER_RECORD,
-    RECEIVER_STORE, REGION, SENDER_RECORD, SENDER_STORE, SHORTEST_PACKET, SYSTEM_PLACE,
-    TOTALS_RECORD,
+    FRAMING_RECORD, LINE_RECORD, LONGEST_LINE_FRAME, LONGEST_MESSAGE, LONGEST_PACKET,
+    RECEIVER_RECORD, RECEIVER_STORE, REGION, SENDER_RECORD, SENDER_STORE, SHORTEST_PACKET,
+    SYSTEM_PLACE, TOTALS_RECORD,
 };
-pub use line::{write_line, LinePacket, LineRead, LineReader};
+pub use line::{write_line, LineRead, LineReader};
 pub use notice::{Fate, Notice};
-pub use receiver::{Read, Receiver};
+pub use packet::Packet;
+pub use receiver::{Open, Read, Receiver};
 pub use refusal::Refusal;
 pub use sender::{Block, Sender};
 pub use system::SystemPacket;

@@ -1,9 +1,8 @@
 //! The serial line to a telemetry terminal.
 
-use core::ops::Deref;
-
 use crate::calls;
 use crate::lengths::{LINE_RECORD, LONGEST_PACKET};
+use crate::packet::Packet;
 use crate::refusal::Refusal;
 
 /// Writes a packet of 2 to 19 bytes to the start of `line` as a frame of RFC 1662, and answers how many bytes the frame has: a flag (7E hex), the
@@ -79,16 +78,9 @@ pub struct LineReader {
 #[derive(Clone, Copy, Debug, PartialEq, Eq)]
 pub struct LineRead {
     /// The packet that the call stopped behind; none where the bytes end before any.
-    pub packet: Option<LinePacket>,
+    pub packet: Option<Packet>,
     /// How many bytes it read; the next call goes on behind them.
     pub bytes: usize,
-}
-
-/// A packet of the serial line: 2 to 19 bytes, without the FCS.
-#[derive(Clone, Copy, Debug, PartialEq, Eq)]
-pub struct LinePacket {
-    bytes: [u8; LONGEST_PACKET],
-    length: usize,
 }
 
 impl LineReader {
@@ -106,7 +98,7 @@ impl LineReader {
             calls::line_read(&mut self.record, line, &mut bytes);
         let length = usize::from(length);
         LineRead {
-            packet: (length > 0).then_some(LinePacket { bytes, length }),
+            packet: (length > 0).then_some(Packet::of(bytes, length)),
             bytes: number(read),
         }
     }
@@ -126,27 +118,6 @@ impl LineReader {
 impl Default for LineReader {
     fn default() -> LineReader {
         LineReader::new()
-    }
-}
-
-impl LinePacket {
-    /// Its bytes.
-    pub fn as_bytes(&self) -> &[u8] {
-        &self.bytes[..self.length]
-    }
-}
-
-impl AsRef<[u8]> for LinePacket {
-    fn as_ref(&self) -> &[u8] {
-        self.as_bytes()
-    }
-}
-
-impl Deref for LinePacket {
-    type Target = [u8];
-
-    fn deref(&self) -> &[u8] {
-        self.as_bytes()
     }
 }
 

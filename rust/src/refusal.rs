@@ -47,7 +47,7 @@ pub enum Refusal {
     BufferTooShort = 12,
     /// 13: a system packet with enable bits above 15, a code above 8 or more than 15 bytes of information.
     SystemPacket = 13,
-    /// 14: a record out of range, which no record made by calls is.
+    /// 14: a record out of range, which no record made by calls is. Of a framing alone: one that no bits leave.
     RecordOutOfRange = 14,
     /// 15: from above to, or to past the bytes lent.
     BitRange = 15,
@@ -102,12 +102,13 @@ impl Refusal {
         self as u8
     }
 
-    /// What a call's number says. 255, for a record or an answer too short, is not answered to this library, which gives both in full length.
+    /// What a call's number says. 255, for a record, an answer or a packet's place too short, is not answered to this library, which gives all of them
+    /// in full length.
     pub(crate) fn answered(number: u32) -> Result<(), Refusal> {
         match number {
             0 => Ok(()),
             1..=17 => Err(TABLE[number as usize - 1].0),
-            _ => unreachable!("a call answers 0 to 17 to a record and an answer of full length"),
+            _ => unreachable!("a call answers 0 to 17 where all that it asks for has full length"),
         }
     }
 }

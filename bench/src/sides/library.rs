@@ -1,10 +1,12 @@
 //! The library through its functions in C.
 
 use super::{
-    answered, Ask, BlockAnswer, Line, LineAnswer, LineSide, Offer, Part, ReadAnswer, Receiver,
-    Sender, Side, Totals,
+    answered, Ask, BlockAnswer, Framing, FramingAnswer, FramingSide, Line, LineAnswer, LineSide,
+    Offer, Part, ReadAnswer, Receiver, Sender, Side, Totals,
 };
-use aes18::{ffi, LINE_RECORD, LONGEST_PACKET, RECEIVER_RECORD, SENDER_RECORD, TOTALS_RECORD};
+use aes18::{
+    ffi, FRAMING_RECORD, LINE_RECORD, LONGEST_PACKET, RECEIVER_RECORD, SENDER_RECORD, TOTALS_RECORD,
+};
 
 pub struct Library;
 
@@ -12,6 +14,10 @@ impl Side for Library {
     type Sender = LibrarySender;
     type Receiver = LibraryReceiver;
     type Totals = LibraryTotals;
+}
+
+impl FramingSide for Library {
+    type Framing = LibraryFraming;
 }
 
 impl LineSide for Library {
@@ -111,6 +117,41 @@ impl Receiver for LibraryReceiver {
                 bits.len(),
                 part.from,
                 part.to,
+                answer.0.as_mut_ptr(),
+                answer.0.len(),
+            )
+        })?;
+        Ok(answer)
+    }
+}
+
+pub struct LibraryFraming([u8; FRAMING_RECORD]);
+
+impl Default for LibraryFraming {
+    fn default() -> LibraryFraming {
+        LibraryFraming([0; FRAMING_RECORD])
+    }
+}
+
+impl Framing for LibraryFraming {
+    fn read(
+        &mut self,
+        bits: &[u8],
+        part: Part,
+        packet: &mut [u8; LONGEST_PACKET],
+    ) -> Result<FramingAnswer, u32> {
+        let record = &mut self.0;
+        let mut answer = FramingAnswer::default();
+        answered(unsafe {
+            ffi::aes18_framing_read(
+                record.as_mut_ptr(),
+                record.len(),
+                bits.as_ptr(),
+                bits.len(),
+                part.from,
+                part.to,
+                packet.as_mut_ptr(),
+                packet.len(),
                 answer.0.as_mut_ptr(),
                 answer.0.len(),
             )

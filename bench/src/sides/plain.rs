@@ -1,8 +1,8 @@
 //! Plain C: plain.c, as bench.h declares it.
 
 use super::{
-    answered, Ask, BlockAnswer, Line, LineAnswer, LineSide, Offer, Part, ReadAnswer, Receiver,
-    Sender, Side, Totals,
+    answered, Ask, BlockAnswer, Framing, FramingAnswer, FramingSide, Line, LineAnswer, LineSide,
+    Offer, Part, ReadAnswer, Receiver, Sender, Side, Totals,
 };
 use aes18::{LONGEST_PACKET, TOTALS_RECORD};
 use std::ptr;
@@ -13,6 +13,10 @@ impl Side for Plain {
     type Sender = PlainSender;
     type Receiver = PlainReceiver;
     type Totals = PlainTotals;
+}
+
+impl FramingSide for Plain {
+    type Framing = PlainFraming;
 }
 
 impl LineSide for Plain {
@@ -29,6 +33,17 @@ pub struct PlainSender(Room);
 #[derive(Default)]
 #[repr(C)]
 pub struct PlainReceiver(Room);
+
+/// The last 16 bits, three numbers of a byte each, and the bytes of a body.
+#[repr(C)]
+pub struct PlainFraming(u16, [u8; 3], [u8; 22]);
+
+/// Fresh: ones before the first bit, and nothing kept.
+impl Default for PlainFraming {
+    fn default() -> PlainFraming {
+        PlainFraming(0xFFFF, [0; 3], [0; 22])
+    }
+}
 
 /// The figures in their order.
 #[derive(Default)]
@@ -84,6 +99,15 @@ extern "C" {
         to: u64,
         answer: *mut ReadAnswer,
     ) -> u32;
+    fn plain_framing_read(
+        f: *mut PlainFraming,
+        bits: *const u8,
+        bits_len: usize,
+        from: u64,
+        to: u64,
+        packet: *mut [u8; LONGEST_PACKET],
+        answer: *mut FramingAnswer,
+    ) -> u32;
     fn plain_totals_note(t: *mut PlainTotals, answer: *const ReadAnswer) -> u32;
     fn plain_line_write(
         packet: *const u8,
@@ -115,9 +139,9 @@ impl Plain {
     }
 }
 
-// SAFETY of the calls below: a record has room for the struct (`record_sizes`), totals, a line's reader and an answer are laid out as their structs,
-// a packet that is read has room for the longest, each other pointer is of a slice and passed with its length, and nothing that is written overlaps
-// anything else.
+// SAFETY of the calls below: a record has room for the struct (`record_sizes`), a framing, totals, a line's reader and an answer are laid out as their
+// structs, a packet that is read has room for the longest, each other pointer is of a slice and passed with its length, and nothing that is written
+// overlaps anything else.
 
 impl Sender for PlainSender {
     fn list(&mut self, list: &[u8]) -> Result<(), u32> {
@@ -182,6 +206,22 @@ impl Receiver for PlainReceiver {
                 part.to,
                 &mut answer,
             )
+        })?;
+        Ok(answer)
+    }
+}
+
+impl Framing for PlainFraming {
+    fn read(
+        &mut self,
+        bits: &[u8],
+        part: Part,
+        packet: &mut [u8; LONGEST_PACKET],
+    ) -> Result<FramingAnswer, u32> {
+        let mut answer = FramingAnswer::default();
+        let (bits, length) = (bits.as_ptr(), bits.len());
+        answered(unsafe {
+            plain_framing_read(self, bits, length, part.from, part.to, packet, &mut answer)
         })?;
         Ok(answer)
     }

@@ -1,6 +1,6 @@
 //! What was seen of the serial line.
 
-use super::{line, unseen};
+use super::{add, line, unseen};
 use aes18_reference::hdlc::fcs;
 use aes18_reference::line::{escaped, frame, judge, pieces, text_of, unescaped, worst_case};
 use aes18_reference::line::{Judged, ESCAPE, FLAG, LINE_RECORD, LONGEST_PACKET};
@@ -78,12 +78,6 @@ pub struct Lines {
     sides: [u64; 4],
     read: [u64; 9],
     odd: [u64; 11],
-}
-
-fn add<const N: usize>(counts: &mut [u64; N], seen: [bool; N]) {
-    for (count, seen) in counts.iter_mut().zip(seen) {
-        *count += u64::from(seen);
-    }
 }
 
 fn any(bytes: &[u8]) -> bool {

@@ -1,6 +1,6 @@
 //! The serial line: packets written, lines of frames, damaged frames and noise read behind any record and cut anywhere.
 
-use crate::both::{differ, hex, line_bytes, Both, Compared};
+use crate::both::{differ, hex, read_of, Both, Compared};
 use crate::inputs::{any_length, every_byte, spare};
 use crate::random::Random;
 use aes18_reference::calls::{LINE_READ_ANSWER, LINE_WRITE_ANSWER};
@@ -195,7 +195,7 @@ fn read(both: &mut Both, record: &mut [u8], line: &[u8]) -> Compared<Vec<Vec<u8>
     let (mut rest, mut told) = (line, vec![]);
     loop {
         both.line_read(record, rest, &mut packet, &mut answer)?;
-        rest = &rest[line_bytes(&answer)..];
+        rest = &rest[read_of(&answer)..];
         match usize::from(answer[0]) {
             0 => return Ok(told),
             length => told.push(packet[..length].to_vec()),

@@ -1,9 +1,11 @@
-//! The library through its safe types: every refusal that they can meet, every notice, a pass cut at every bit, totals, and the serial
-//! line.
+//! The library through its safe types: every refusal that they can meet, every notice, a pass cut at every bit, open messages, totals, the
+//! framing alone, and the serial line.
 
 mod frames;
+mod framing;
 mod line;
 mod notices;
+mod open;
 mod passes;
 mod refusals;
 mod totals;
