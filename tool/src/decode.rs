@@ -5,7 +5,7 @@ mod folder;
 mod format;
 mod json;
 mod line;
-mod progress;
+pub mod progress;
 mod text;
 
 use std::ffi::OsString;
@@ -16,8 +16,9 @@ use aes18::{Circuit, Notice, Read, Receiver, RECEIVER_STORE};
 use crate::args::{self, Arg, Args};
 use crate::circuits;
 use crate::error::Error;
+use crate::formats::{self, Choice};
 use crate::frames;
-use crate::input::Input;
+use crate::input::{Chunk, Content, Input};
 use crate::output::{say_raw, Unread};
 use counts::Counts;
 use folder::Folder;
@@ -32,8 +33,11 @@ pub const HELP: &str = r#"aes18 decode: tell what is in filed user bits, or on a
 Usage: aes18 decode --circuits ADDR[:EXT],.. [--json] [--messages DIR] BITS
        aes18 decode --line --circuits ADDR[:EXT],.. [..] LINE
 
-  BITS               the file of user bits, eight in a byte, the first in the
-                     lowest bit, or - for the standard input
+  BITS               the file of user bits, or - for the standard input
+  --format FORMAT    bits: eight in a byte, the first in the lowest bit, as
+                     without this option; bits-msb: the first in the highest
+                     bit; iec958: a capture of ALSA's IEC958_SUBFRAME_LE words
+  --channel CHANNEL  left or right, the channel of a capture; left without it
   --line             read the bytes of a serial line, such as aes18 line writes,
                      in place of user bits
   --circuits LIST    one to four circuits to listen to, such as 01,02:07:
@@ -73,6 +77,15 @@ circuit's number, circuit, loss and fate; Whole and System also length, hex and,
 if it is printable text, text; and with --messages file. The last object has the
 one member totals.
 
+A capture (iec958) has words of 32 bits, the lowest byte first, left and right
+in turn, and no header. The user bit is bit 29 of a word. Which channel a word
+is of, its preamble in bits 0 to 3 says: 8 or 2 left, 4 right, as ALSA writes
+them; without one of these it is the other channel than that of the word before
+it, and the first word is left. Bits are numbered within the channel.
+
+Where no frame passes, a warning on the standard error says how many do in other
+formats and channels.
+
 LINE has the octet-stuffed frames of RFC 1662, or - is the standard input. A
 packet on it is told as it would be out of user bits. Its place is how many
 bytes of the line were read when it was told: the number, from 0, of the first
@@ -106,7 +119,7 @@ struct Request {
     circuits: Vec<Circuit>,
     json: bool,
     messages: Option<OsString>,
-    line: bool,
+    content: Content,
     file: OsString,
 }
 
@@ -114,8 +127,8 @@ struct Request {
 pub fn run(args: Args) -> Result<(), Error> {
     let request = Request::parse(args)?;
     let receiver = circuits::receiver(&request.circuits)?;
-    let mut input = Input::open(&request.file)?;
-    if request.line && input.is_terminal() {
+    let mut input = Input::open(&request.file, request.content)?;
+    if request.content == Content::Line && input.is_terminal() {
         say_raw(input.name());
     }
     let folder = request.messages.as_deref().map(Folder::open).transpose()?;
@@ -132,15 +145,21 @@ pub fn run(args: Args) -> Result<(), Error> {
         circuits: request.circuits,
         folder,
         format: if request.json { &Json } else { &Text },
+        passed: false,
         out: BufWriter::new(stdout),
     };
     let mut progress = Progress::new(input.length());
-    while let Some(bytes) = input.chunk()? {
-        decoder.read(bytes)?;
-        progress.add(bytes.len());
+    while let Some(chunk) = input.chunk()? {
+        decoder.read(&chunk)?;
+        progress.add(chunk.read);
     }
     drop(progress);
-    decoder.finish()
+    let passed = decoder.passed;
+    decoder.finish()?;
+    if let (Content::Bits(used), false) = (request.content, passed) {
+        formats::warn_of_no_frame(&request.file, &input, used)?;
+    }
+    input.end()
 }
 
 impl Request {
@@ -150,8 +169,10 @@ impl Request {
         let mut messages = None;
         let mut line = false;
         let mut file = None;
+        let mut choice = Choice::default();
         while let Some(arg) = args.next()? {
             match arg {
+                Arg::Option(name) if choice.option(&name, &mut args)? => {}
                 Arg::Option(name) => match name.as_str() {
                     "--circuits" => circuits = Some(args.value("a list of circuits")?),
                     "--messages" => messages = Some(args.value("a folder")?),
@@ -168,7 +189,10 @@ impl Request {
             circuits: circuits::option(&circuits)?,
             json,
             messages,
-            line,
+            content: match line {
+                true => choice.refuse_with("--line").map(|()| Content::Line)?,
+                false => Content::Bits(choice.finish()?),
+            },
             file: file.ok_or_else(|| match line {
                 true => expected("a file of a serial line"),
                 false => expected("a file of user bits"),
@@ -178,9 +202,9 @@ impl Request {
 
     /// What places are counted in.
     fn unit(&self) -> Unit {
-        match self.line {
-            true => Unit::Byte,
-            false => Unit::Bit,
+        match self.content {
+            Content::Line => Unit::Byte,
+            _ => Unit::Bit,
         }
     }
 }
@@ -196,22 +220,23 @@ struct Decoder {
     counts: Counts,
     folder: Option<Folder>,
     format: &'static dyn Format,
+    /// Whether a frame has passed.
+    passed: bool,
     out: BufWriter<Box<dyn Write>>,
 }
 
 impl Decoder {
-    /// Reads the next bytes and tells their notices.
-    fn read(&mut self, bytes: &[u8]) -> Result<(), Error> {
+    /// Reads the next chunk and tells its notices.
+    fn read(&mut self, chunk: &Chunk<'_>) -> Result<(), Error> {
         match self.counts.unit {
-            Unit::Bit => self.read_bits(bytes)?,
-            Unit::Byte => self.read_line(bytes)?,
+            Unit::Bit => self.read_bits(chunk.bytes, chunk.bits)?,
+            Unit::Byte => self.read_line(chunk.bytes)?,
         }
         self.out.flush().map_err(|error| Error::stdout(&error))
     }
 
-    /// Reads bytes of user bits.
-    fn read_bits(&mut self, bytes: &[u8]) -> Result<(), Error> {
-        let to = 8 * bytes.len() as u64;
+    /// Reads user bits, which the bytes begin with.
+    fn read_bits(&mut self, bytes: &[u8], to: u64) -> Result<(), Error> {
         let mut from = 0;
         loop {
             let read = self.receive(bytes, from, to)?;
@@ -268,6 +293,7 @@ impl Decoder {
     /// Counts a notice, files its message and tells it.
     fn tell(&mut self, notice: Notice) -> Result<(), Error> {
         self.counts.count(&notice);
+        self.passed |= notice != Notice::Spoilt;
         let message = notice.message(&self.store);
         let file = match (&notice, message, &mut self.folder) {
             (Notice::Circuit { number, .. }, Some(message), Some(folder)) => {

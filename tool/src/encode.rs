@@ -1,5 +1,7 @@
 //! `aes18 encode`: the user bits that a plan asks for.
 
+mod filing;
+mod insertion;
 mod join;
 mod plan;
 mod sending;
@@ -12,19 +14,28 @@ use std::io::{self, Write};
 use crate::args::{self, Arg, Args};
 use crate::draft::{self, Draft};
 use crate::error::Error;
+use crate::formats::{Choice, Formats};
 use crate::output::say;
-use join::Join;
+use filing::Filing;
+use insertion::Insertion;
 use plan::Plan;
 use sending::send;
 use summary::Summary;
 
 pub const HELP: &str = r#"aes18 encode: make the user bits that a plan asks for
 
-Usage: aes18 encode PLAN -o BITS
+Usage: aes18 encode [--format FORMAT] [--channel CHANNEL] PLAN -o BITS
+       aes18 encode --format iec958 [..] --into CAPTURE PLAN -o BITS
 
   PLAN                 the plan, a text file, or - for the standard input
   -o, --output BITS    the file of user bits to write, or - for the standard
                        output
+  --format FORMAT      bits: eight in a byte, the first in the lowest bit, as
+                       without this option; bits-msb: the first in the highest
+                       bit; iec958: a capture, see below
+  --channel CHANNEL    left or right, the channel of a capture; left without
+                       this option
+  --into CAPTURE       put the bits into a capture that is there
   -h, --help           print this help
 
 A plan has one line for each call of the sender, in their order. Empty lines and
@@ -50,9 +61,23 @@ for no bytes. Numbers are decimal, or hex behind 0x.
   block 600 590
   block 605 605 system 15 2 "sunlit"
 
-BITS gets the user bits of all blocks, joined bit by bit, eight in a byte, the
-first in the lowest bit; up to seven 0 bits fill the last byte. Where anything
-is wrong nothing is written. What was made is told on the standard error.
+BITS gets the user bits of all blocks, joined bit by bit; where they are packed
+into bytes, up to seven 0 bits fill the last one. Where anything is wrong
+nothing is written. What was made is told on the standard error.
+
+A capture (iec958) is in ALSA's format IEC958_SUBFRAME_LE, without a header:
+words of 32 bits, the lowest byte first, left and right in turn. In each are the
+preamble (bits 0 to 3), audio (4 to 27), validity (28), the user bit (29),
+channel status (30) and parity (31). BITS gets as many frames of silence as
+there are user bits, with the bits in the words of the channel and 0 in the
+others.
+
+With --into the bits go into the channel's words from the first on, each with
+its parity made right; everything else in CAPTURE, the other channel among it,
+stays to the last bit. Which channel a word is of, its preamble says or, without
+one, its place. A CAPTURE with fewer words than bits is refused; in one with
+more the rest keeps its user bits. So a second run puts another plan into the
+other channel. CAPTURE may be - for the standard input.
 Exit status: 0; 1 for a refusal or a wrong plan; 2 for wrong usage.
 "#;
 
@@ -60,14 +85,18 @@ Exit status: 0; 1 for a refusal or a wrong plan; 2 for wrong usage.
 struct Request {
     plan: OsString,
     bits: OsString,
+    formats: Formats,
+    /// The capture that the bits go into.
+    into: Option<OsString>,
 }
 
 /// Runs the subcommand.
 pub fn run(args: Args) -> Result<(), Error> {
     let request = Request::parse(args)?;
     let plan = Plan::read(&request.plan)?;
+    let filing = request.filing()?;
     let mut draft = Draft::new(&request.bits)?;
-    let summary = write(&plan, &mut draft)?;
+    let summary = write(&plan, filing, &mut draft)?;
     draft.finish(&[])?;
     say(&summary);
     Ok(())
@@ -77,10 +106,14 @@ impl Request {
     fn parse(mut args: Args) -> Result<Request, Error> {
         let mut plan = None;
         let mut bits = None;
+        let mut into = None;
+        let mut choice = Choice::default();
         while let Some(arg) = args.next()? {
             match arg {
+                Arg::Option(name) if choice.option(&name, &mut args)? => {}
                 Arg::Option(name) => match name.as_str() {
                     "-o" | "--output" => bits = Some(args.value("a file of user bits")?),
+                    "--into" => into = Some(args.value("a capture")?),
                     _ => return Err(args::unknown_option(&name)),
                 },
                 Arg::Operand(path) => args::keep_operand(&mut plan, path)?,
@@ -89,25 +122,56 @@ impl Request {
         let expected = |what: &str| Error::Usage(format!("expected {what}"));
         let plan = plan.ok_or_else(|| expected("a plan"))?;
         let bits = bits.ok_or_else(|| expected("-o BITS"))?;
-        match draft::same_file(&plan, &bits) {
-            true => Err(expected("another file for BITS than PLAN")),
-            false => Ok(Request { plan, bits }),
+        if draft::same_file(&plan, &bits) {
+            return Err(expected("another file for BITS than PLAN"));
+        }
+        let request = Request {
+            plan,
+            bits,
+            formats: choice.finish()?,
+            into,
+        };
+        request.check_into().map_err(expected)?;
+        Ok(request)
+    }
+
+    /// What is expected where the capture that the bits go into does not fit the rest.
+    fn check_into(&self) -> Result<(), &'static str> {
+        let Some(capture) = &self.into else {
+            return Ok(());
+        };
+        if !matches!(self.formats, Formats::Iec958(_)) {
+            Err("--format iec958 with --into")
+        } else if draft::same_file(capture, &self.bits) {
+            Err("another file for BITS than CAPTURE")
+        } else if capture == "-" && self.plan == "-" {
+            Err("another input for CAPTURE than PLAN")
+        } else {
+            Ok(())
+        }
+    }
+
+    /// The file of bits, or the capture that they go into, opened.
+    fn filing(&self) -> Result<Filing, Error> {
+        match (&self.into, self.formats) {
+            (Some(capture), Formats::Iec958(channel)) => {
+                Insertion::open(capture, channel).map(|insertion| Filing::Into(Box::new(insertion)))
+            }
+            (_, formats) => Ok(Filing::new(formats)),
         }
     }
 }
 
-/// Writes the joined bits of the plan's blocks and answers what there is to tell of them.
-fn write(plan: &Plan, draft: &mut Draft) -> Result<String, Error> {
+/// Files the joined bits of the plan's blocks and answers what there is to tell of them.
+fn write(plan: &Plan, mut filing: Filing, draft: &mut Draft) -> Result<String, Error> {
     let name = draft.name();
     let failed = |error: io::Error| Error::file(&name, &error);
-    let mut join = Join::default();
+    let mut write = |bytes: &[u8]| draft.write_all(bytes).map_err(failed);
     let mut summary = Summary::default();
     let sender = send(plan, |made| {
         summary.block(plan, &made);
-        let joined = join.put(made.bytes, made.n);
-        draft.write_all(&joined).map_err(failed)
+        filing.put(made.bytes, made.n, &mut write)
     })?;
-    let end = join.end();
-    draft.write_all(end.as_slice()).map_err(failed)?;
-    Ok(summary.end(plan, &sender))
+    let rest = filing.end(&mut write)?;
+    Ok(summary.end(plan, &sender) + &rest)
 }

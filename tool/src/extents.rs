@@ -37,21 +37,24 @@ pub struct Pass {
 }
 
 impl Pass {
-    pub fn new(receiver: Receiver) -> Pass {
+    /// Nothing read yet. The last byte may have spare bits where `spare` says so.
+    pub fn new(receiver: Receiver, spare: bool) -> Pass {
         Pass {
             receiver,
             store: vec![0; RECEIVER_STORE],
-            extents: Extents::default(),
+            extents: Extents {
+                spare,
+                ..Extents::default()
+            },
             ended: false,
         }
     }
 
-    /// Reads the next bytes and answers the stretches known by then, each behind the one before it.
-    pub fn read(&mut self, bytes: &[u8]) -> Result<Vec<Stretch>, Error> {
-        let end = 8 * bytes.len() as u64;
+    /// Reads the next bits, which the bytes begin with, and answers the stretches known by then, each behind the one before it.
+    pub fn read(&mut self, bytes: &[u8], bits: u64) -> Result<Vec<Stretch>, Error> {
         let mut at = 0;
-        while at < end {
-            let read = self.receiver.read(&mut self.store, bytes, at, end);
+        while at < bits {
+            let read = self.receiver.read(&mut self.store, bytes, at, bits);
             let read = read.map_err(|refusal| Error::Data(refusal.to_string()))?;
             let notice = Some(read.notice).filter(|notice| *notice != Notice::End);
             self.extents.follow(bytes, at, at + read.bits, notice);
@@ -76,6 +79,8 @@ impl Pass {
 /// Cuts the bits into stretches. A stretch is known when the flag behind it is read, or seven ones.
 #[derive(Default)]
 struct Extents {
+    /// Whether the last byte may have spare bits.
+    spare: bool,
     known: Vec<Stretch>,
     /// How many bits are followed.
     at: u64,
@@ -141,7 +146,7 @@ impl Extents {
 
     /// Up to seven zeros behind ones or a flag are spare bits of the last byte and are in no stretch.
     fn end(&mut self) {
-        let spare = match self.zeros == self.trailing && self.trailing < 8 {
+        let spare = match self.spare && self.zeros == self.trailing && self.trailing < 8 {
             true => self.trailing,
             false => 0,
         };
@@ -170,7 +175,15 @@ mod tests {
 
     /// The stretches of bits written as text, where `|` behind a bit says that it gave the notice Spoilt, each as its kind's letter and its length.
     fn cut(text: &str) -> String {
-        let mut extents = Extents::default();
+        cut_with(text, true)
+    }
+
+    /// The same, with or without spare bits.
+    fn cut_with(text: &str, spare: bool) -> String {
+        let mut extents = Extents {
+            spare,
+            ..Extents::default()
+        };
         let mut bits = text.chars().filter(|c| *c != ' ').peekable();
         while let Some(bit) = bits.next() {
             let notice = bits.next_if_eq(&'|').map(|_| Notice::Spoilt);
@@ -221,5 +234,8 @@ mod tests {
         assert_eq!(cut("01111110 01011 000"), "f8 v8");
         assert_eq!(cut("01111110 000"), "f8");
         assert_eq!(cut("000"), "");
+        assert_eq!(cut_with("01111110 1111 000", false), "f8 v7");
+        assert_eq!(cut_with("01111110 11111111 000", false), "f8 i8 v3");
+        assert_eq!(cut_with("01111110 1111", false), "f8 i4");
     }
 }

@@ -9,18 +9,23 @@ use crate::args::{self, Arg, Args};
 use crate::draft::{self, Draft};
 use crate::error::Error;
 use crate::extents::{Kind, Pass, Stretch};
+use crate::formats::{self, Choice, Formats};
 use crate::frames;
-use crate::input::Input;
+use crate::input::{Chunk, Content, Input};
 use crate::output::{count, say};
 
 pub const HELP: &str = "\
 aes18 line: write the packets in filed user bits as a serial line
 
-Usage: aes18 line BITS -o LINE
+Usage: aes18 line [--format FORMAT] [--channel CHANNEL] BITS -o LINE
 
-  BITS                 the file of user bits, eight in a byte, the first in the
-                       lowest bit, or - for the standard input
+  BITS                 the file of user bits, or - for the standard input
   -o, --output LINE    the file or device to write, or - for the standard output
+  --format FORMAT      bits: eight in a byte, the first in the lowest bit, as
+                       without this option; bits-msb: the first in the highest
+                       bit; iec958: a capture of ALSA's IEC958_SUBFRAME_LE words
+  --channel CHANNEL    left or right, the channel of a capture; left without
+                       this option
   -h, --help           print this help
 
 LINE gets the octet-stuffed frames of RFC 1662, for a telemetry terminal. Each
@@ -44,7 +49,8 @@ that it must be raw; it is written all the same.
 LINE is written when all bits are read, and not at all where that goes wrong.
 If writing goes wrong, a file stays as it was, and a device, a pipe or the
 standard output may have got a part. How many packets and bytes were written,
-and how many spoilt frames were left out, is told on the standard error.
+and how many spoilt frames were left out, is told on the standard error. Where
+no frame passes, a warning there says how many do in other formats.
 Exit status: 0; 1 for a file that cannot be read or written; 2 for wrong usage.
 ";
 
@@ -54,21 +60,26 @@ const REACH: usize = (frames::LONGEST_BODY + frames::FLAG_BITS).div_ceil(8) as u
 /// The files that the command line names.
 struct Request {
     bits: OsString,
+    formats: Formats,
     line: OsString,
 }
 
 /// Runs the subcommand.
 pub fn run(args: Args) -> Result<(), Error> {
     let request = Request::parse(args)?;
-    let mut input = Input::open(&request.bits)?;
+    let mut input = Input::open(&request.bits, Content::Bits(request.formats))?;
     let mut draft = Draft::serial(&request.line)?;
     let mut lining = Lining::new(input.name())?;
-    while let Some(bytes) = input.chunk()? {
-        let frames = lining.read(bytes)?;
+    while let Some(chunk) = input.chunk()? {
+        let frames = lining.read(&chunk)?;
         draft
             .write_all(&frames)
             .map_err(|error: io::Error| Error::file(draft.name(), &error))?;
     }
+    if lining.packets == 0 {
+        formats::warn_of_no_frame(&request.bits, &input, request.formats)?;
+    }
+    input.end()?;
     let length = draft.finish(&[])?;
     say(&lining.summary(length));
     Ok(())
@@ -78,8 +89,10 @@ impl Request {
     fn parse(mut args: Args) -> Result<Request, Error> {
         let mut bits = None;
         let mut line = None;
+        let mut choice = Choice::default();
         while let Some(arg) = args.next()? {
             match arg {
+                Arg::Option(name) if choice.option(&name, &mut args)? => {}
                 Arg::Option(name) => match name.as_str() {
                     "-o" | "--output" => line = Some(args.value("a file for the line")?),
                     _ => return Err(args::unknown_option(&name)),
@@ -90,9 +103,14 @@ impl Request {
         let expected = |what: &str| Error::Usage(format!("expected {what}"));
         let bits = bits.ok_or_else(|| expected("a file of user bits"))?;
         let line = line.ok_or_else(|| expected("-o LINE"))?;
+        let formats = choice.finish()?;
         match draft::same_file(&bits, &line) {
             true => Err(expected("another file for LINE than BITS")),
-            false => Ok(Request { bits, line }),
+            false => Ok(Request {
+                bits,
+                formats,
+                line,
+            }),
         }
     }
 }
@@ -118,18 +136,18 @@ impl Lining {
         let receiver = receiver.map_err(|refusal| Error::Data(refusal.to_string()))?;
         Ok(Lining {
             name: name.to_string(),
-            pass: Pass::new(receiver),
+            pass: Pass::new(receiver, false),
             recent: Recent::default(),
             packets: 0,
             spoilt: 0,
         })
     }
 
-    /// Reads the next bytes' bits and answers the frames on the line of the packets that they complete.
-    fn read(&mut self, bytes: &[u8]) -> Result<Vec<u8>, Error> {
-        self.recent.add(bytes);
+    /// Reads the next bits and answers the frames on the line of the packets that they complete.
+    fn read(&mut self, chunk: &Chunk<'_>) -> Result<Vec<u8>, Error> {
+        self.recent.add(chunk.bytes);
         let mut frames = Vec::new();
-        for stretch in self.pass.read(bytes)? {
+        for stretch in self.pass.read(chunk.bytes, chunk.bits)? {
             match stretch.kind {
                 Kind::Body(Notice::Spoilt) => self.spoilt += 1,
                 Kind::Body(_) => {
@@ -223,10 +241,21 @@ mod tests {
         bytes
     }
 
+    /// All bits of the bytes.
+    fn whole(bytes: &[u8]) -> Chunk<'_> {
+        Chunk {
+            bytes,
+            bits: 8 * bytes.len() as u64,
+            read: bytes.len(),
+        }
+    }
+
     /// The line of bits given in parts.
     fn line(parts: &[&[u8]]) -> Vec<u8> {
         let mut lining = Lining::new("bits").unwrap();
-        let frames = parts.iter().flat_map(|part| lining.read(part).unwrap());
+        let frames = parts
+            .iter()
+            .flat_map(|part| lining.read(&whole(part)).unwrap());
         frames.collect()
     }
 
@@ -248,7 +277,7 @@ mod tests {
     fn little_is_kept() {
         let mut lining = Lining::new("bits").unwrap();
         for _ in 0..100 {
-            lining.read(&[0x55; 1000]).unwrap();
+            lining.read(&whole(&[0x55; 1000])).unwrap();
             assert!(lining.recent.bytes.len() <= 1000 + REACH);
         }
     }

@@ -9,6 +9,7 @@ mod draft;
 mod encode;
 mod error;
 mod extents;
+mod formats;
 mod frames;
 mod input;
 mod line;
@@ -68,7 +69,8 @@ Options:
   -h, --help       print this help
   -V, --version    print the version
 
-A file of user bits has eight of them in a byte, the first in the lowest bit.
+A file of user bits has eight of them in a byte, the first in the lowest bit,
+unless --format says otherwise: bits-msb, or iec958 for a capture of ALSA's.
 Exit status: 0; 1 for a refusal or bad data; 2 for wrong usage.
 ";
 

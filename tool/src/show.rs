@@ -13,12 +13,15 @@ mod words;
 use std::ffi::OsStr;
 use std::io::{self, BufWriter, Write};
 
+use aes18::Notice;
+
 use crate::args::Args;
 use crate::circuits;
 use crate::draft::{self, Draft};
 use crate::error::Error;
-use crate::extents::Pass;
-use crate::input::Input;
+use crate::extents::{Kind, Pass, Stretch};
+use crate::formats;
+use crate::input::{Content, Input};
 use layout::Part;
 use options::Options;
 use svg::Svg;
@@ -30,10 +33,14 @@ Shows filed user bits as a picture, with what went wrong in them.
 
 Usage: aes18 show --circuits ADDR[:EXT],.. [OPTIONS] BITS
 
-BITS is a file of user bits, eight in a byte, the first in the lowest bit; - is the standard input.
+BITS is a file of user bits; - is the standard input.
 
 Options:
   --circuits LIST    the circuits, one to four, in hex, such as 01,02:07; they are numbered from 0
+  --format FORMAT    bits: eight in a byte, the first in the lowest bit, as
+                     without this option; bits-msb: the first in the highest
+                     bit; iec958: a capture of ALSA's IEC958_SUBFRAME_LE words
+  --channel CHANNEL  left or right, the channel of a capture; left without it
   --block N          a row for each block of N bits, 256 to 27000; without it rows of 1000 bits
   --from BIT         show the bits from this one on
   --to BIT           show the bits before this one
@@ -66,6 +73,9 @@ the end, behind closing ones or a flag, are the last byte's spare bits and are n
 With --svg the picture goes to FILE in place of the terminal; with - nothing but the picture is
 written. It says what a frame is when pointed at. A frame takes about 400 bytes in it, so that --from
 and --to are of use in a long pass.
+
+Where no frame passes in the whole file, a warning on the standard error says how many do in other
+formats.
 ";
 
 /// Runs the subcommand.
@@ -79,7 +89,7 @@ pub fn run(args: Args) -> Result<(), Error> {
 
 fn show_in_terminal(options: &Options) -> Result<(), Error> {
     let failed = |error: io::Error| Error::stdout(&error);
-    let mut input = Input::open(&options.bits)?;
+    let mut input = Input::open(&options.bits, Content::Bits(options.formats))?;
     let out = BufWriter::new(io::stdout().lock());
     let mut picture = Terminal::new(out, input.name().to_string(), options);
     let tally = draw(options, &mut input, |part| {
@@ -87,11 +97,12 @@ fn show_in_terminal(options: &Options) -> Result<(), Error> {
     })?;
     picture.end().map_err(failed)?;
     report::write(&mut picture.out, options, &tally).map_err(failed)?;
-    picture.out.flush().map_err(failed)
+    picture.out.flush().map_err(failed)?;
+    input.end()
 }
 
 fn write_svg(options: &Options, file: &OsStr) -> Result<(), Error> {
-    let mut input = Input::open(&options.bits)?;
+    let mut input = Input::open(&options.bits, Content::Bits(options.formats))?;
     if draft::same_file(file, &options.bits) {
         return Err(Error::Usage(
             "--svg names the file of user bits".to_string(),
@@ -104,6 +115,7 @@ fn write_svg(options: &Options, file: &OsStr) -> Result<(), Error> {
     let tally = draw(options, &mut input, |part| {
         picture.part(part).map_err(failed)
     })?;
+    input.end()?;
     let start = picture.end(&tally).map_err(failed)?;
     let length = picture.out.finish(&start)?;
     match file == "-" {
@@ -128,19 +140,27 @@ fn draw(
     mut draw: impl FnMut(&Part<'_>) -> Result<(), Error>,
 ) -> Result<Tally, Error> {
     let layout = &options.layout;
-    let mut pass = Pass::new(circuits::receiver(&options.circuits)?);
+    let mut pass = Pass::new(
+        circuits::receiver(&options.circuits)?,
+        options.formats.spare(),
+    );
     let mut tally = Tally::default();
+    let mut passed = false;
     let mut ended = false;
     while !ended {
         let stretches = match input.chunk()? {
-            Some(bytes) => pass.read(bytes)?,
+            Some(chunk) => pass.read(chunk.bytes, chunk.bits)?,
             None => pass.end(),
         };
+        passed |= stretches.iter().any(passes);
         for stretch in stretches.iter().filter(|stretch| layout.shows(stretch)) {
             tally.add(stretch, options.places);
             layout.parts(stretch).try_for_each(|part| draw(&part))?;
         }
         ended = pass.ended() || tally.end >= layout.to;
+    }
+    if pass.ended() && !passed {
+        formats::warn_of_no_frame(&options.bits, input, options.formats)?;
     }
     match tally.end == 0 && layout.from > 0 {
         true => Err(Error::Data(format!(
@@ -150,4 +170,9 @@ fn draw(
         ))),
         false => Ok(tally),
     }
+}
+
+/// Whether a stretch is a body that passes.
+fn passes(stretch: &Stretch) -> bool {
+    matches!(stretch.kind, Kind::Body(notice) if notice != Notice::Spoilt)
 }

@@ -34,10 +34,21 @@ fn printed(folder: &Path, arguments: &[&str]) -> String {
     output(&mut show(folder, arguments))
 }
 
+/// The same of a pass without frames that pass.
+fn printed_without_frames(folder: &Path, arguments: &[&str]) -> String {
+    let warning = "warning: pass: no frame found, nor in another format or channel\n";
+    output_with(&mut show(folder, arguments), warning)
+}
+
 fn output(command: &mut Command) -> String {
+    output_with(command, "")
+}
+
+/// What a run prints that succeeds and says this on the standard error.
+fn output_with(command: &mut Command, said: &str) -> String {
     let output = command.output().unwrap();
     let error = String::from_utf8(output.stderr).unwrap();
-    assert_eq!((output.status.code(), error.as_str()), (Some(0), ""));
+    assert_eq!((output.status.code(), error.as_str()), (Some(0), said));
     String::from_utf8(output.stdout).unwrap()
 }
 
@@ -318,13 +329,13 @@ fn many_places() {
         bits.extend(bits_of(&[0, 0, 0, 0, 0x7E]));
     }
     file(&folder, &bits);
-    let text = printed(&folder, &["--circuits", "01", "pass"]);
+    let text = printed_without_frames(&folder, &["--circuits", "01", "pass"]);
     assert!(text.contains("\n50 places went wrong:\n"), "{text}");
     assert!(
         text.ends_with("\n  bits 1568 to 1599: spoilt\n  and 10 more (--all lists them)\n"),
         "{text}"
     );
-    let text = printed(&folder, &["--circuits", "01", "--all", "pass"]);
+    let text = printed_without_frames(&folder, &["--circuits", "01", "--all", "pass"]);
     assert!(text.ends_with("\n  bits 1968 to 1999: spoilt\n"), "{text}");
     assert_eq!(text.matches(": spoilt\n").count(), 50);
 }
@@ -337,7 +348,7 @@ fn a_long_body() {
         &folder,
         &bits_of(&[&[0x7E], &[0; 100_000][..], &[0x7E]].concat()),
     );
-    let text = printed(&folder, &["--circuits", "01", "pass"]);
+    let text = printed_without_frames(&folder, &["--circuits", "01", "pass"]);
     let rows: Vec<&str> = text
         .lines()
         .skip(2)
@@ -518,12 +529,18 @@ fn errors_write_nothing() {
 fn an_empty_file() {
     let folder = folder("empty");
     file(&folder, &[]);
-    let text = printed(&folder, &["--circuits", "01", "pass"]);
-    assert!(text.ends_with("No place went wrong.\n"), "{text}");
-    elements(&printed(
-        &folder,
-        &["--circuits", "01", "--svg", "-", "pass"],
-    ));
+    for svg in [&[][..], &["--svg", "-"], &["--svg", "picture"]] {
+        let mut command = show(&folder, &[svg, &["--circuits", "01", "pass"]].concat());
+        let output = command.output().unwrap();
+        let error = String::from_utf8(output.stderr).unwrap();
+        assert_eq!(output.status.code(), Some(1), "{error}");
+        assert_eq!(
+            error,
+            "aes18: pass: expected user bits, not an empty file\n"
+        );
+        assert!(output.stdout.is_empty());
+    }
+    assert!(!folder.join("picture").exists());
 }
 
 #[test]
@@ -531,6 +548,8 @@ fn help() {
     let text = printed(&folder("help"), &["--help"]);
     for option in [
         "--circuits",
+        "--format",
+        "--channel",
         "--block",
         "--from",
         "--to",

@@ -9,7 +9,7 @@ use aes18::Circuit;
 use super::words::{self, Word};
 use crate::circuits;
 use crate::error::Error;
-use crate::input::Input;
+use crate::input::{Content, Input};
 
 /// A plan as read: every line is well written, and none is looked at further.
 pub struct Plan {
@@ -58,7 +58,7 @@ enum Line {
 impl Plan {
     /// Reads a plan from a file, or from the standard input where its name is `-`.
     pub fn read(path: &OsStr) -> Result<Plan, Error> {
-        let mut input = Input::open(path)?;
+        let mut input = Input::open(path, Content::Plan)?;
         let text = input.rest()?;
         let folder = match Path::new(path).parent() {
             Some(folder) if path != "-" => folder.to_path_buf(),

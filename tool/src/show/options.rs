@@ -13,6 +13,7 @@ use super::words::Words;
 use crate::args::{self, Arg, Args};
 use crate::circuits;
 use crate::error::Error;
+use crate::formats::{Choice, Formats};
 
 /// Bits of a row where no block is given.
 const ROW: u64 = 1000;
@@ -27,6 +28,7 @@ const PLACES: usize = 40;
 /// What the command line asks for.
 pub struct Options {
     pub bits: OsString,
+    pub formats: Formats,
     pub circuits: Vec<Circuit>,
     pub layout: Layout,
     pub svg: Option<OsString>,
@@ -40,6 +42,7 @@ pub struct Options {
 #[derive(Default)]
 struct Given {
     bits: Option<OsString>,
+    choice: Choice,
     circuits: Option<Vec<Circuit>>,
     block: Option<u64>,
     from: Option<u64>,
@@ -74,6 +77,7 @@ impl Options {
 impl Given {
     fn option(&mut self, option: &str, arguments: &mut Args) -> Result<(), Error> {
         match option {
+            _ if self.choice.option(option, arguments)? => {}
             "--circuits" => {
                 let list = arguments.value("a list of circuits")?;
                 self.circuits = Some(circuits::option(&list)?);
@@ -103,6 +107,7 @@ impl Given {
         }
         Ok(Options {
             bits: self.bits.ok_or_else(|| missing("the file of user bits"))?,
+            formats: self.choice.finish()?,
             circuits: self.circuits.ok_or_else(|| missing("--circuits"))?,
             layout,
             svg: self.svg,

@@ -1,4 +1,4 @@
-//! A long pass and a long line are read with constant memory.
+//! A long pass, a long line and a long capture are read with constant memory.
 #![cfg(target_os = "linux")]
 
 use std::fs::{self, File};
@@ -25,8 +25,14 @@ fn plan() -> String {
 
 /// Files the pass as often as it takes for that many bytes, as `long`; answers how often.
 fn repeat(folder: &Folder, bytes: usize) -> usize {
+    repeat_in(folder, bytes, &[])
+}
+
+/// The same in the format that options choose.
+fn repeat_in(folder: &Folder, bytes: usize, options: &[&str]) -> usize {
     folder.write("plan", plan());
-    assert_eq!(folder.run(&["encode", "plan", "-o", "pass"]).status, 0);
+    let encode = [&["encode", "plan", "-o", "pass"], options].concat();
+    assert_eq!(folder.run(&encode).status, 0);
     let pass = folder.read("pass");
     let times = bytes.div_ceil(pass.len());
     let mut long = BufWriter::new(File::create(folder.path("long")).unwrap());
@@ -96,6 +102,29 @@ fn a_long_line_takes_little_memory() {
     let totals = totals(times, &format!("{read}; System 0, Dropped 0"));
     let end = String::from_utf8(end).unwrap();
     assert!(end.ends_with(&totals), "{end}");
+}
+
+/// A long capture read, and the pass put into its other channel.
+#[test]
+fn a_long_capture_takes_little_memory() {
+    let folder = Folder::new("long-capture");
+    let left = ["--format=iec958"];
+    let right = ["--format=iec958", "--channel=right"];
+    let times = repeat_in(&folder, LONG, &left);
+    let decode = ["decode", "--circuits", "01,02:07", "long"];
+    let (end, err) = run(&folder, &[&decode[..], &left].concat());
+    assert_eq!(err, "");
+    let bits = folder.read("pass").len() / 8 * times;
+    let totals = totals(times, &format!("bits read {bits}; System 0, Spoilt 0"));
+    let end = String::from_utf8(end).unwrap();
+    assert!(end.ends_with(&totals), "{end}");
+
+    let into = ["encode", "plan", "--into", "long", "-o", "-"];
+    let (end, err) = run(&folder, &[&into[..], &right].concat());
+    let rest = bits - bits / times;
+    let keeps = format!("\nlong: channel right keeps the user bits of its last {rest} words\n");
+    assert!(err.ends_with(&keeps), "{err}");
+    assert!(folder.read("pass").ends_with(&end));
 }
 
 /// The last part of what the program writes, and the most memory that it took, in kB.

@@ -1,5 +1,6 @@
 //! The tool as a person uses it: the built program run on real files.
 
+mod captures;
 mod decode;
 mod encode;
 // Made by hand as for the library's tests, of which not all is needed here.

@@ -103,9 +103,11 @@ fn wrong_usage() {
 #[test]
 fn a_file_named_like_an_option() {
     let folder = Folder::new("dashes");
-    folder.write("--json", [0xFF; 10]);
+    folder.write("plan", "circuits 01\nblock 256 256 system 15 0\n");
+    folder.run(&["encode", "plan", "-o", "bits"]);
+    folder.write("--json", folder.read("bits"));
     let told = folder
         .run(&["decode", "--circuits=01", "--", "--json"])
         .told();
-    assert!(told.contains("bits read 80;"), "{told}");
+    assert!(told.contains("bits read 256;"), "{told}");
 }
