@@ -170,7 +170,6 @@ fn no_spare_bits_in_a_capture() {
     let mut words = words(&folder.read("capture"));
     words.extend([2, 4].repeat(3));
     folder.write("capture", bytes(&words));
-    folder.write("bits3", folder.read("bits"));
     let show = |options: &[&str], bits: &str| {
         let arguments = [&["show", ALL], options, &[bits]].concat();
         folder.run(&arguments).told()
