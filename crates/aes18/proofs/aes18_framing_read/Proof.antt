@@ -1,11 +1,12 @@
 -- `aes18::aes18_framing_read` meets its contract.
+use native.Mathlib.Omega.{arith}
 use Rattle.aes18.proofs.FramingOutcomes.{framing-short, framing-short-packet, framing-short-answer, framing-read}
 use borrow.Author.Needs.{needs}
 use Rattle.aes18.proofs.aes18_framing_read.Statement.{statement}
 use Rattle.aes18.proofs.aes18_framing_read.Tie as tie
 
 returns : tie.Need-returns
-returns c = framing-short _ _ _ _ _ _ (c .if1 .taken)
+returns c = framing-short _ _ _ _ _ _ (omega (arith, c .if1 .taken))
 
 returns-2 : tie.Need-returns-2
 returns-2 c = framing-short-packet _ _ _ _ _ _ (c .before .if1 .left) (c .if2 .taken)

@@ -38,12 +38,6 @@ put-framing-requires c κs = search needs
 length-given-requires : tie.Need-length-given-requires
 length-given-requires c κs = search needs
 
-put-packet-requires : tie.Need-put-packet-requires
-unfolding framingScan
-put-packet-requires c κs =
-    let a = c .before .before .before .before .before .before .before .before .before .before .before .before .before .before .before .before .before .before .args in
-    (rw (c .length-given .ensures) (given-most _ _ (a .from) (a .to) (c .before .before .before .before .before .before .before .before .before .scan .ensures)), c .before .before .before .before .before .before .before .before .before .before .before .before .before .before .before .before .before .before .pre .1)
-
 put-answer-requires : tie.Need-put-answer-requires
 put-answer-requires c κs = c .before .before .before .before .before .before .before .before .before .before .before .before .before .before .before .before .before .before .before .before .before .before .pre .2
 
@@ -61,6 +55,12 @@ unfolding framingScan
 returns-2 c =
     read-scanned _ _ _ _ _ _ (c .before .before .before .before .before .before .before .before .before .before .before .before .before .before .before .before .before .before .before .framing-in .ensures) (c .before .before .before .before .before .before .before .before .before .before .before .before .before .before .before .before .before .before .refusal .ensures) (c .before .before .before .before .before .before .before .before .before .before .before .before .before .before .before .before .before .if1 .left) (c .before .before .before .before .before .before .before .before .before .before .before .before .before .before .before .before .scan .ensures) (c .before .before .before .before .before .before .before .before .before .before .before .put-framing .ensures)
     (c .before .before .before .before .before .before .before .length-given .ensures) (c .before .before .before .before .before .before .put-packet .ensures) (c .before .before .put-answer .ensures)
+
+put-packet-requires : tie.Need-put-packet-requires
+unfolding framingScan
+put-packet-requires c κs =
+    let a = c .before .before .before .before .before .before .before .before .before .before .before .before .before .before .before .before .before .before .args in
+    (rw (c .length-given .ensures) (given-most _ _ (a .from) (a .to) (c .before .before .before .before .before .before .before .before .before .scan .ensures)), c .before .before .before .before .before .before .before .before .before .before .before .before .before .before .before .before .before .before .pre .1)
 
 pub read-spec : {M : Type 1} → statement M
 read-spec =

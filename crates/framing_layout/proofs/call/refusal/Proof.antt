@@ -29,15 +29,15 @@ returns-2 c =
 past-requires : tie.Need-past-requires
 past-requires c κs = search needs
 
-returns-3 : tie.Need-returns-3
-returns-3 c =
-    let a = c .before .before .before .before .before .before .args in
-    gives-15-past (a .framing) (now (a .bits)) (a .from) (a .to) (range (c .before .before .before)) (c .before .before .if2 .left) (sym (c .before .past .ensures) ∙ c .if3 .taken)
-
 returns-4 : tie.Need-returns-4
 returns-4 c =
     let a = c .before .before .before .before .before .before .args in
     gives-0 (a .framing) (now (a .bits)) (a .from) (a .to) (range (c .before .before .before)) (c .before .before .if2 .left) (sym (c .before .past .ensures) ∙ c .if3 .left)
+
+returns-3 : tie.Need-returns-3
+returns-3 c =
+    let a = c .before .before .before .before .before .before .args in
+    gives-15-past (a .framing) (now (a .bits)) (a .from) (a .to) (range (c .before .before .before)) (c .before .before .if2 .left) (sym (c .before .past .ensures) ∙ c .if3 .taken)
 
 pub refusal-spec : {M : Type 1} → statement M
 refusal-spec =
