@@ -51,9 +51,9 @@ module _ (check : Check) (read : ℕ) (answer : List ℕ) (room : framingAnswerL
   unfolding framingAnswerBytes lowBytes
   answer-front = sets-front answer (framingAnswerBytes check read) room
 
-  read-told : read < 2 ^ 64 → numberAt 8 (sets answer 0 (framingAnswerBytes check read)) 8 ≡ read
+  bits-told : read < 2 ^ 64 → numberAt 8 (sets answer 0 (framingAnswerBytes check read)) 8 ≡ read
   unfolding framingAnswerBytes lowBytes
-  read-told h =
+  bits-told h =
       rw answer-front
       (number-after 8 (bodyNumber check ∷ lowBytes 1 (lengthGiven check) ++ replicate 6 0) (lowBytes 8 read ++ drop framingAnswerLength answer) 8 refl
       ∙ number-unpacks 8 read h (drop framingAnswerLength answer))
@@ -76,7 +76,7 @@ abbrev bitsOfCall : List ℕ → LentFramingRead → List Bool
 bitsOfCall bytes c = cond (eqb (lentNumber bytes c) 0) (take (numberAt 8 (lentAnswer bytes c) 8) (drop (c .from) (bitsOf (c .bits)))) []
 
 -- it gives what is closed in them, leaves the framing that they leave, and is not answered by 14
-record Carried (bytes : List ℕ) (f : Framing) (c : LentFramingRead) : Type 0 where
+record FramingCarried (bytes : List ℕ) (f : Framing) (c : LentFramingRead) : Type 0 where
   pub given : cond (eqb (lentNumber bytes c) 0) (bodyTold (lentAnswer bytes c) (lentPacket bytes c)) [] ≡ notNothing (gives (closings f 0 (bitsOfCall bytes c)))
   pub after : Holds (lentFraming bytes c) (run f (bitsOfCall bytes c))
   pub in-range : lentNumber bytes c ≡ 14 → ⊥
@@ -86,7 +86,7 @@ module _ (bytes : List ℕ) (f : Framing) (c : LentFramingRead) (holds : Holds b
   s = framingScan f (c .bits) (c .from) (c .to)
 
   -- a call that is not answered by 0 leaves the framing
-  refused : (n : ℕ) → lentNumber bytes c ≡ n → eqb n 0 ≡ false → (n ≡ 14 → ⊥) → lentFraming bytes c ≡ bytes → Carried bytes f c
+  refused : (n : ℕ) → lentNumber bytes c ≡ n → eqb n 0 ≡ false → (n ≡ 14 → ⊥) → lentFraming bytes c ≡ bytes → FramingCarried bytes f c
   unfolding closings notNothing run
   refused n is none not-14 stays =
       record { given = rw (is, none); after = rw (is, none, stays) holds; in-range = λ e. not-14 (sym is ∙ e) }
@@ -139,7 +139,7 @@ module _ (bytes : List ℕ) (f : Framing) (c : LentFramingRead) (holds : Holds b
           let order = before-scan f (c .bits) (c .from) (c .to) accepted in
           let lent : length part ≡ c .to - c .from = length-slice (c .from) (c .to) (bitsOf (c .bits)) (rw length-bitsOf (order .1)) in
           let most : s .at ≤ c .from + length part = scan-most part f (c .from) in
-          rw (answered, accepted, answer-is, read-told (s .check) (s .at - c .from) (c .answer) (rooms .1) (omega arith))
+          rw (answered, accepted, answer-is, bits-told (s .check) (s .at - c .from) (c .answer) (rooms .1) (omega arith))
           (scan-takes f (c .from) (c .to) (bitsOf (c .bits)))
 
       leaves : run f (take (s .at - c .from) part) ≡ s .framing
@@ -158,7 +158,7 @@ module _ (bytes : List ℕ) (f : Framing) (c : LentFramingRead) (holds : Holds b
       unfolding framingScan
       after-range = scan-in-range part f (c .from) (holds .array) (holds .range)
 
-      read : c .to < 2 ^ 64 → Carried bytes f c
+      read : c .to < 2 ^ 64 → FramingCarried bytes f c
       read few =
           record {
             given =
@@ -185,37 +185,37 @@ not-14 f bits from to range = rw range (go (ltb to from || ltb (8 * length bits)
     go true e = omega arith
     go false e = omega arith
 
-call-carried : (bytes : List ℕ) (f : Framing) (c : LentFramingRead) → Holds bytes f → c .to < 2 ^ 64 → Carried bytes f c
+call-carried : (bytes : List ℕ) (f : Framing) (c : LentFramingRead) → Holds bytes f → c .to < 2 ^ 64 → FramingCarried bytes f c
 unfolding framingAfter lentNumber framingReadAnswered lentFraming framingReadRecord noRoom
 call-carried bytes f c holds few = by-room (framingShort bytes (c .packet) (c .answer)) refl
   where
     number : ℕ
     number = framingRefusal f (c .bits) (c .from) (c .to)
 
-    by-number : framingShort bytes (c .packet) (c .answer) ≡ false → (t : Bool) → eqb number 0 ≡ t → Carried bytes f c
+    by-number : framingShort bytes (c .packet) (c .answer) ≡ false → (t : Bool) → eqb number 0 ≡ t → FramingCarried bytes f c
     by-number short true e = read bytes f c holds short (eqb-true number 0 e) few
     by-number short false e =
         refused bytes f c holds number (answered bytes f c holds short) e (not-14 f (c .bits) (c .from) (c .to) (holds .range))
         (left bytes f c holds short ∙ rw (holds .is, e))
 
-    roomless : framingShort bytes (c .packet) (c .answer) ≡ true → Carried bytes f c
+    roomless : framingShort bytes (c .packet) (c .answer) ≡ true → FramingCarried bytes f c
     roomless short = refused bytes f c holds 255 (rw short) refl (λ e. omega arith) (rw short)
 
-    by-room : (t : Bool) → framingShort bytes (c .packet) (c .answer) ≡ t → Carried bytes f c
+    by-room : (t : Bool) → framingShort bytes (c .packet) (c .answer) ≡ t → FramingCarried bytes f c
     by-room true short = roomless short
     by-room false short = by-number short (eqb number 0) refl
 
 -- ---- calls
 
-reads-carried : (cs : List LentFramingRead) (bytes : List ℕ) (f : Framing) → Holds bytes f → AllAre SixtyFour cs
+framing-reads-carried : (cs : List LentFramingRead) (bytes : List ℕ) (f : Framing) → Holds bytes f → AllAre SixtyFour cs
     → lentBodies bytes cs ≡ notNothing (gives (closings f 0 (lentBits bytes cs)))
 unfolding lentBodies lentBits AllAre closings notNothing
-reads-carried [] bytes f holds few = refl
-reads-carried (c ∷ cs) bytes f holds (one, more) =
+framing-reads-carried [] bytes f holds few = refl
+framing-reads-carried (c ∷ cs) bytes f holds (one, more) =
     let carried = call-carried bytes f c holds one in
     let bits : List Bool = bitsOfCall bytes c in
     let later : List Bool = lentBits (lentFraming bytes c) cs in
-    rw (carried .given, reads-carried cs (lentFraming bytes c) (run f bits) (carried .after) more)
+    rw (carried .given, framing-reads-carried cs (lentFraming bytes c) (run f bits) (carried .after) more)
     (sym (ap notNothing (gives-append bits later f) ∙ notNothing-append (gives (closings f 0 bits)) (gives (closings (run f bits) 0 later))))
 
 numbers-carried : (cs : List LentFramingRead) (bytes : List ℕ) (f : Framing) → Holds bytes f → AllAre SixtyFour cs → AllAre (λ (n : ℕ). n ≡ 14 → ⊥) (lentNumbers bytes cs)
@@ -242,7 +242,7 @@ pub framings-carried : (cs : List LentFramingRead) (rest : List ℕ) → AllAre 
     lentBodies zeros cs ≡ notNothing (map (λ (b : Body). judge (b .bits)) (bodies (lentBits zeros cs))))
 framings-carried cs rest few =
     let zeros : List ℕ = replicate framingLength 0 ++ rest in
-    reads-carried cs zeros fresh (zeros-hold rest) few ∙ bodies-given (lentBits zeros cs)
+    framing-reads-carried cs zeros fresh (zeros-hold rest) few ∙ bodies-given (lentBits zeros cs)
 
 pub framing-never-14 : (cs : List LentFramingRead) (rest : List ℕ) → AllAre SixtyFour cs
     → AllAre (λ (n : ℕ). n ≡ 14 → ⊥) (lentNumbers (replicate framingLength 0 ++ rest) cs)

@@ -4,7 +4,7 @@ use Prim.Native.Nat.{ℕ, _≤_}
 use native.Mathlib.Omega.{arith}
 use mathlib.Core.List.{List, _++_}
 use lib.ListN.{length, take, replicate}
-use lib.Seq.{take-at, length-slice}
+use lib.Seq.{take-at}
 use Rattle.framing.specs.declared.Framing.{Framing}
 use Rattle.framing.specs.Machine.{empty, fresh}
 use Rattle.layout.specs.Layout.{byteAt}
@@ -19,10 +19,6 @@ framing-unpacks f long rest = λ i.
 pub framing-packs : (bytes : List ℕ) → framingLength ≤ length bytes → framingBytes (framingIn bytes 0) ≡ take framingLength bytes
 unfolding framingIn framingBytes
 framing-packs bytes long = read-slice 3 bytes 0 24 (omega arith) long
-
-pub framing-long : (bytes : List ℕ) → framingLength ≤ length bytes → length (framingIn bytes 0 .bits) ≡ 21
-unfolding framingIn
-framing-long bytes long = length-slice 3 24 bytes long
 
 pub length-framingBytes : (f : Framing) → length (f .bits) ≡ 21 → length (framingBytes f) ≡ framingLength
 unfolding framingBytes

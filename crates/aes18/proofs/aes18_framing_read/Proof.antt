@@ -5,6 +5,9 @@ use borrow.Author.Needs.{needs}
 use Rattle.aes18.proofs.aes18_framing_read.Statement.{statement}
 use Rattle.aes18.proofs.aes18_framing_read.Tie as tie
 
+read-requires : tie.Need-read-requires
+read-requires c κs = search needs
+
 returns : tie.Need-returns
 returns c = framing-short _ _ _ _ _ _ (omega (arith, c .if1 .taken))
 
@@ -13,9 +16,6 @@ returns-2 c = framing-short-packet _ _ _ _ _ _ (c .before .if1 .left) (c .if2 .t
 
 returns-3 : tie.Need-returns-3
 returns-3 c = framing-short-answer _ _ _ _ _ _ (c .before .before .if1 .left) (c .before .if2 .left) (c .if3 .taken)
-
-read-requires : tie.Need-read-requires
-read-requires c κs = search needs
 
 same-length : tie.Need-same-length
 same-length c = search needs
