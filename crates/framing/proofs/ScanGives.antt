@@ -1,6 +1,6 @@
 -- What a scan gives is what the bodies give that are closed in the bits it reads; and those that are closed from a fresh framing on give what the declared
 -- bodies of the bits give.
-use Prim.Native.Nat.{ℕ, zero, suc, _+_, _-_, _≤_}
+use Prim.Native.Nat.{ℕ, zero, suc, _+_, _-_, _≤_, _<_}
 use native.Mathlib.Omega.{arith}
 use mathlib.Core.Bool.{Bool, true, false, cond}
 use mathlib.Core.List.{List, [], _∷_, _++_, map, map-append}
@@ -18,7 +18,7 @@ use Rattle.framing.specs.Scanning.{ended, stopped, scan}
 use Rattle.framing.proofs.FramingFindsBodies.{framing-finds-bodies}
 use Rattle.framing.proofs.Void.{void-gives-nothing}
 use Rattle.framing.proofs.Runs.{closings-append}
-use Rattle.framing.proofs.Scanned.{scan-least, scan-most}
+use Rattle.framing.proofs.Scanned.{scan-cons, scan-least, scan-most}
 use Rattle.framing.proofs.ScanFindsFirst.{take-behind}
 
 -- ---- what closed bodies give
@@ -63,11 +63,11 @@ notNothing-append (nothing ∷ js) ks = notNothing-append js ks
 -- ---- a scan
 
 -- the bodies closed in the bits that a scan reads give what the scan gives, and nothing else
-abbrev Gives : Framing → ℕ → List Bool → Scan → Type 0
-Gives f at bits s = notNothing (gives (closings f at (take (s .at - at) bits))) ≡ notNothing (givenBy (s .check) (s .bytes) ∷ [])
+abbrev SameGiven : Framing → ℕ → List Bool → Scan → Type 0
+SameGiven f at bits s = notNothing (gives (closings f at (take (s .at - at) bits))) ≡ notNothing (givenBy (s .check) (s .bytes) ∷ [])
 
 -- a bit, where the later bits' scan gives so
-module _ (f : Framing) (at : ℕ) (b : Bool) (bits : List Bool) (later : Scan) (least : suc at ≤ later .at) (given : Gives (step f b) (suc at) bits later) where
+module _ (f : Framing) (at : ℕ) (b : Bool) (bits : List Bool) (later : Scan) (least : suc at ≤ later .at) (given : SameGiven (step f b) (suc at) bits later) where
   read-on : take (later .at - at) (b ∷ bits) ≡ b ∷ take (later .at - suc at) bits
   read-on = take-behind (later .at) at b bits least
 
@@ -75,18 +75,18 @@ module _ (f : Framing) (at : ℕ) (b : Bool) (bits : List Bool) (later : Scan) (
   read-one = let e : suc at - at ≡ 1 = omega arith in rw e
 
   -- it closes no body
-  quiet-gives : closes f b ≡ false → Gives f at (b ∷ bits) later
+  quiet-gives : closes f b ≡ false → SameGiven f at (b ∷ bits) later
   unfolding closings
   quiet-gives e = rw (read-on, e) given
 
   -- it closes one
-  stopped-gives : (c : Check) → check f ≡ c → closes f b ≡ true → Gives f at (b ∷ bits) (stopped c f b at later)
+  stopped-gives : (c : Check) → check f ≡ c → closes f b ≡ true → SameGiven f at (b ∷ bits) (stopped c f b at later)
   unfolding stopped closings closed notNothing givenBy
   stopped-gives (Packet n) k e = rw (read-one, e, k)
   stopped-gives Spoilt k e = rw (read-one, e, k)
   stopped-gives Nothing k e = rw (read-on, e, k) given
 
-pub scan-gives : (bits : List Bool) (f : Framing) (at : ℕ) → Gives f at bits (scan f at bits)
+pub scan-gives : (bits : List Bool) (f : Framing) (at : ℕ) → SameGiven f at bits (scan f at bits)
 unfolding scan ended closings notNothing givenBy
 scan-gives [] f at = rw take-nil
 scan-gives (b ∷ bits) f at = go (closes f b) refl (scan-gives bits (step f b) (suc at))
@@ -94,9 +94,79 @@ scan-gives (b ∷ bits) f at = go (closes f b) refl (scan-gives bits (step f b) 
     later : Scan
     later = scan (step f b) (suc at) bits
 
-    go : (t : Bool) → closes f b ≡ t → Gives (step f b) (suc at) bits later → Gives f at (b ∷ bits) (cond t (stopped (check f) f b at later) later)
+    go : (t : Bool) → closes f b ≡ t → SameGiven (step f b) (suc at) bits later → SameGiven f at (b ∷ bits) (cond t (stopped (check f) f b at later) later)
     go true e h = stopped-gives f at b bits later (scan-least bits (step f b) (suc at)) h (check f) refl e
     go false e h = quiet-gives f at b bits later (scan-least bits (step f b) (suc at)) h e
+
+-- a body closed at a bit at which the scan does not stop
+closed-quiet : (c : Check) (f : Framing) (b : Bool) (at j : ℕ) (later : Scan) (js : List Judged) → suc j < stopped c f b at later .at - at
+    → (j < later .at - suc at → notNothing js ≡ []) → notNothing (givenBy c (f .bits) ∷ js) ≡ []
+unfolding stopped givenBy notNothing
+closed-quiet (Packet n) f b at j later js h quiet = absurd (omega arith)
+closed-quiet Spoilt f b at j later js h quiet = absurd (omega arith)
+closed-quiet Nothing f b at j later js h quiet = quiet (omega arith)
+
+-- fewer bits than a scan reads give nothing
+pub scan-quiet : (bits : List Bool) (f : Framing) (at j : ℕ) → j < scan f at bits .at - at → notNothing (gives (closings f at (take j bits))) ≡ []
+unfolding scan closings closed notNothing
+scan-quiet [] f at j h = rw take-nil
+scan-quiet (b ∷ bits) f at zero h = refl
+scan-quiet (b ∷ bits) f at (suc j) h = go (closes f b) h (scan-quiet bits (step f b) (suc at) j)
+  where
+    later : Scan
+    later = scan (step f b) (suc at) bits
+
+    js : List Judged
+    js = gives (closings (step f b) (suc at) (take j bits))
+
+    go : (t : Bool) → suc j < cond t (stopped (check f) f b at later) later .at - at → (j < later .at - suc at → notNothing js ≡ [])
+        → notNothing (gives (cond t (closed f (suc at) ∷ closings (step f b) (suc at) (take j bits)) (closings (step f b) (suc at) (take j bits)))) ≡ []
+    go true h quiet = closed-quiet (check f) f b at j later js h quiet
+    go false h quiet = quiet (omega arith)
+
+-- a scan that no body stopped has read all bits
+abbrev pub EndsAt : Check → ℕ → ℕ → Type 0
+EndsAt (Packet n) at end = Unit {0}
+EndsAt Spoilt at end = Unit {0}
+EndsAt Nothing at end = at ≡ end
+
+stopped-ends : (c : Check) (f : Framing) (b : Bool) (at : ℕ) (later : Scan) (end : ℕ) → EndsAt (later .check) (later .at) end
+    → EndsAt (stopped c f b at later .check) (stopped c f b at later .at) end
+unfolding stopped
+stopped-ends (Packet n) f b at later end l = tt
+stopped-ends Spoilt f b at later end l = tt
+stopped-ends Nothing f b at later end l = l
+
+pub scan-ends : (bits : List Bool) (f : Framing) (at : ℕ) → EndsAt (scan f at bits .check) (scan f at bits .at) (at + length bits)
+unfolding scan ended
+scan-ends [] f at = omega arith
+scan-ends (b ∷ bits) f at =
+    let e : suc at + length bits ≡ at + suc (length bits) = omega arith in
+    let later = rw e at (scan-ends bits (step f b) (suc at)) in
+    scan-cons (λ (s : Scan). EndsAt (s .check) (s .at) (at + suc (length bits))) f at b bits later
+    (stopped-ends (check f) f b at (scan (step f b) (suc at) bits) (at + suc (length bits)) later)
+
+-- the bits that a scan reads, scanned again, give the same scan
+pub scan-again : (bits : List Bool) (f : Framing) (at : ℕ) → scan f at (take (scan f at bits .at - at) bits) ≡ scan f at bits
+unfolding scan stopped
+scan-again [] f at = rw take-nil
+scan-again (b ∷ bits) f at = go (closes f b) refl (check f) refl (scan-again bits (step f b) (suc at))
+  where
+    later : Scan
+    later = scan (step f b) (suc at) bits
+
+    on : take (later .at - at) (b ∷ bits) ≡ b ∷ take (later .at - suc at) bits
+    on = take-behind (later .at) at b bits (scan-least bits (step f b) (suc at))
+
+    one : take (suc at - at) (b ∷ bits) ≡ b ∷ []
+    one = let e : suc at - at ≡ 1 = omega arith in rw e
+
+    go : (t : Bool) → closes f b ≡ t → (k : Check) → check f ≡ k → scan (step f b) (suc at) (take (later .at - suc at) bits) ≡ later
+        → scan f at (take (cond t (stopped k f b at later) later .at - at) (b ∷ bits)) ≡ cond t (stopped k f b at later) later
+    go false e k h again = rw (on, e) again
+    go true e (Packet n) h again = rw (one, e, h)
+    go true e Spoilt h again = rw (one, e, h)
+    go true e Nothing h again = rw (on, e, h) again
 
 -- the front of a part
 pub take-slice : {A : Type 0} (from to n : ℕ) (l : List A) → n ≤ length (slice from to l) → take n (slice from to l) ≡ take n (drop from l)

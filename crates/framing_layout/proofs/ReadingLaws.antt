@@ -76,8 +76,8 @@ module _ (f : Framing) (bits : List ℕ) (from to : ℕ) where
 -- ---- what a call answers, and the bytes of the framing, those for the packet and those of the answer then
 
 module _ (bytes bits : List ℕ) (from to : ℕ) (packet answer : List ℕ) where
-  abbrev FramingRead : ℕ → List ℕ → List ℕ → List ℕ → Type 0
-  FramingRead number new newPacket newAnswer =
+  abbrev CallRead : ℕ → List ℕ → List ℕ → List ℕ → Type 0
+  CallRead number new newPacket newAnswer =
       (number ≡ framingRefusal (framingIn bytes 0) bits from to) × (new ≡ framingAfter bytes bits from to)
       × (newPacket ≡ packetAfter bytes bits from to packet) × (newAnswer ≡ answerAfter bytes bits from to answer)
 
@@ -85,13 +85,13 @@ module _ (bytes bits : List ℕ) (from to : ℕ) (packet answer : List ℕ) wher
     numbered : framingRefusal (framingIn bytes 0) bits from to ≡ number
     numbered = rw (← in-is) (sym is)
 
-    pub read-refused : (number ≡ 0 → ⊥) → FramingRead number bytes packet answer
+    pub read-refused : (number ≡ 0 → ⊥) → CallRead number bytes packet answer
     unfolding framingAfter packetAfter answerAfter
     read-refused some = rw (numbered, ne-eqb number 0 some) (refl, refl, refl, refl)
 
     pub read-scanned : number ≡ 0 → {s : Scan} → s ≡ framingScan f bits from to → {new newPacket newAnswer : List ℕ}
         → new ≡ sets bytes 0 (framingBytes (s .framing)) → {n : ℕ} → n ≡ lengthGiven (s .check) → newPacket ≡ sets packet 0 (take n (s .bytes))
-        → newAnswer ≡ sets answer 0 (framingAnswerBytes (s .check) (s .at - from)) → FramingRead 0 new newPacket newAnswer
+        → newAnswer ≡ sets answer 0 (framingAnswerBytes (s .check) (s .at - from)) → CallRead 0 new newPacket newAnswer
     unfolding framingAfter packetAfter answerAfter
     read-scanned none scanned new-is long packet-is answer-is =
         let number-0 : framingRefusal (framingIn bytes 0) bits from to ≡ 0 = numbered ∙ none in

@@ -20,20 +20,21 @@ unfoldable pub framingIn : List ℕ → ℕ → Framing
 framingIn bytes at =
     record { phase = byteAt bytes at; ones = byteAt bytes (at + 1); count = byteAt bytes (at + 2); bits = slice (at + 3) (at + 24) bytes }
 
--- the answer of reading, 16 bytes: what the bits were read up to, the packet's length, 0 where there is none, and how many bits are read
+-- the answer of reading, 16 bytes: what the read stopped at, the packet's length, 0 where there is none, and how many bits are read
 abbrev pub framingAnswerLength : ℕ
 framingAnswerLength = 16
 
--- End 0, Spoilt 1, Packet 2
-unfoldable pub bodyNumber : Check → ℕ
-bodyNumber Nothing = 0
-bodyNumber Spoilt = 1
-bodyNumber (Packet n) = 2
+-- what a read stopped at: End 0, Spoilt 1, Packet 2
+unfoldable pub stopNumber : Check → ℕ
+stopNumber Nothing = 0
+stopNumber Spoilt = 1
+stopNumber (Packet n) = 2
 
+-- the length of its packet
 unfoldable pub lengthGiven : Check → ℕ
 lengthGiven Nothing = 0
 lengthGiven Spoilt = 0
 lengthGiven (Packet n) = n
 
 unfoldable pub framingAnswerBytes : Check → ℕ → List ℕ
-framingAnswerBytes check bits = bodyNumber check ∷ lowBytes 1 (lengthGiven check) ++ replicate 6 0 ++ lowBytes 8 bits
+framingAnswerBytes check bits = stopNumber check ∷ lowBytes 1 (lengthGiven check) ++ replicate 6 0 ++ lowBytes 8 bits

@@ -6,7 +6,7 @@ ghost use mathlib.Core.Path.{_≡_};
 ghost use Prim.Native.Nat.{_+_, _≤_};
 ghost use lib.ListN.{length};
 ghost use lib.Seq.{sets};
-ghost use Rattle.framing_layout.specs.FramingBytes.{framingLength, framingBytes, framingIn, framingAnswerLength, bodyNumber, lengthGiven, framingAnswerBytes};
+ghost use Rattle.framing_layout.specs.FramingBytes.{framingLength, framingBytes, framingIn, framingAnswerLength, stopNumber, lengthGiven, framingAnswerBytes};
 use framing::Check;
 use framing::Framing;
 use layout::low_byte;
@@ -43,9 +43,9 @@ pub fn put_framing(bytes: &mut [u8], at: usize, framing: Framing)
     bits::copy_at(bytes, at + 3, &kept);
 }
 
-// What a scan was stopped by, by number.
-fn body_number(check: Check) -> u8
-    ensures { λ r. ⌜ r ≡ bodyNumber check ⌝ }
+// What a read stopped at, by number.
+fn stop_number(check: Check) -> u8
+    ensures { λ r. ⌜ r ≡ stopNumber check ⌝ }
 {
     match check {
         Check::Packet(_) => 2,
@@ -71,7 +71,7 @@ pub fn put_answer(bytes: &mut [u8], check: Check, read: usize)
     ensures { λ r. ⌜ now (bytes .exit) ≡ sets (now (bytes .entry)) 0 (framingAnswerBytes check read) ⌝ }
 {
     let told = [
-        body_number(check),
+        stop_number(check),
         low_byte(length_given(check)),
         0,
         0,

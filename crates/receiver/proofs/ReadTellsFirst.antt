@@ -1,26 +1,25 @@
 -- A reading call tells the first notice that the bits give, behind those that the calls before it read; one that tells End has read all bits up to `to`,
 -- and nothing in them gives a notice.
-use Prim.Native.Nat.{ℕ, zero, suc, _+_, _-_, _≤_, _<_}
+use Prim.Native.Nat.{ℕ, _+_, _-_, _≤_, _<_}
 use native.Mathlib.Omega.{arith}
 use mathlib.Core.Bool.{Bool, true, false, cond, true≢false}
 use mathlib.Core.List.{List, [], _∷_, _++_, append-nil}
-use mathlib.Core.Path.{_≡_, refl, sym, ap, _∙_}
+use mathlib.Core.Path.{_≡_, sym, ap, _∙_}
 use lib.ListN.{length, take, drop}
-use lib.Seq.{slice, length-slice, take-nil}
+use lib.Seq.{slice, length-slice}
 use Rattle.bits.specs.Bits.{bitsOf}
 use Rattle.bits.proofs.Bits.{length-bitsOf}
 use Rattle.hdlc.specs.Bodies.{Judged}
 use Rattle.packet.specs.Circuits.{listing}
-use Rattle.framing.specs.declared.Framing.{Framing}
 use Rattle.framing.specs.declared.Check.{Check}
 use Rattle.framing.specs.declared.Check.the-variants.{Packet, Nothing}
 use Rattle.framing.specs.declared.Check.the-variants.{Spoilt as SpoiltBody}
 use Rattle.framing.specs.declared.Scan.{Scan}
-use Rattle.framing.specs.Machine.{step, run, closes, check}
+use Rattle.framing.specs.Machine.{run}
 use Rattle.framing.specs.Machine.{fresh as freshFraming}
-use Rattle.framing.specs.Closings.{givenBy, closed, closings}
-use Rattle.framing.specs.Scanning.{ended, stopped, scan}
-use Rattle.framing.proofs.Scanned.{scan-cons, scan-least, scan-most}
+use Rattle.framing.specs.Closings.{notNothing, closings}
+use Rattle.framing.specs.Scanning.{scan}
+use Rattle.framing.proofs.Scanned.{scan-least, scan-most}
 use Rattle.notices.specs.declared.Notice.{Notice}
 use Rattle.receiver.specs.declared.Receiver.{Receiver}
 use Rattle.receiver.specs.declared.Read.the-variants.{Told}
@@ -29,66 +28,12 @@ use Rattle.receiver.specs.Reading.{withFraming, noticed, readBy, readSca
 use Rattle.receiver.specs.Reads.{ReadCall, ReceiverEnd, freshReceiverEnd, afterReads, bitsOfRead, bitsOfReads, Report, reportOf, told, toldByReads, toldByJudged, isEnd, notEnd}
 use Rattle.receiver.specs.TellsFirst.{toldUpTo, TellsFirst}
 use Rattle.receiver.proofs.ReadLaws.{told-by, before-scan}
-use Rattle.framing.proofs.ScanGives.{gives, gives-from, gives-append, take-slice}
-use Rattle.receiver.proofs.ReadsTell.{passed-tells, read-tells, reads-tell-then, bodies-tell, reads-leave}
+use Rattle.framing.proofs.ScanGives.{gives, gives-from, gives-append, take-slice, scan-quiet, EndsAt, scan-ends}
+use Rattle.receiver.proofs.ReadsTell.{tell-same, passed-tells, read-tells, reads-tell-then, bodies-tell, reads-leave}
 
--- ---- a scan
-
--- these bodies tell nothing
-Quiet : List Judged → Type 0
-Quiet js = (r : Receiver) (store : List ℕ) → toldByJudged r store js ≡ []
-
--- a body closed at a bit at which the scan does not stop
-closed-quiet : (c : Check) (f : Framing) (b : Bool) (at j : ℕ) (later : Scan) (js : List Judged) → suc j < stopped c f b at later .at - at
-    → (j < later .at - suc at → Quiet js) → Quiet (givenBy c (f .bits) ∷ js)
-unfolding Quiet stopped givenBy toldByJudged
-closed-quiet (Packet n) f b at j later js h quiet = absurd (omega arith)
-closed-quiet SpoiltBody f b at j later js h quiet = absurd (omega arith)
-closed-quiet Nothing f b at j later js h quiet = quiet (omega arith)
-
--- fewer bits than a scan reads tell nothing
-scan-quiet : (bits : List Bool) (f : Framing) (at j : ℕ) → j < scan f at bits .at - at → Quiet (gives (closings f at (take j bits)))
-unfolding Quiet scan closings closed toldByJudged
-scan-quiet [] f at j h = λ r store. rw take-nil
-scan-quiet (b ∷ bits) f at zero h = λ r store. refl
-scan-quiet (b ∷ bits) f at (suc j) h = go (closes f b) h (scan-quiet bits (step f b) (suc at) j)
-  where
-    later : Scan
-    later = scan (step f b) (suc at) bits
-
-    js : List Judged
-    js = gives (closings (step f b) (suc at) (take j bits))
-
-    go : (t : Bool) → suc j < cond t (stopped (check f) f b at later) later .at - at → (j < later .at - suc at → Quiet js)
-        → Quiet (gives (cond t (closed f (suc at) ∷ closings (step f b) (suc at) (take j bits)) (closings (step f b) (suc at) (take j bits))))
-    go true h quiet = closed-quiet (check f) f b at j later js h quiet
-    go false h quiet = quiet (omega arith)
-
--- a scan that no body stopped has read all bits
-EndsAt : Check → ℕ → ℕ → Type 0
-EndsAt (Packet n) at end = Unit {0}
-EndsAt SpoiltBody at end = Unit {0}
-EndsAt Nothing at end = at ≡ end
-
-stopped-ends : (c : Check) (f : Framing) (b : Bool) (at : ℕ) (later : Scan) (end : ℕ) → EndsAt (later .check) (later .at) end
-    → EndsAt (stopped c f b at later .check) (stopped c f b at later .at) end
-unfolding EndsAt stopped
-stopped-ends (Packet n) f b at later end l = tt
-stopped-ends SpoiltBody f b at later end l = tt
-stopped-ends Nothing f b at later end l = l
-
-scan-ends : (bits : List Bool) (f : Framing) (at : ℕ) → EndsAt (scan f at bits .check) (scan f at bits .at) (at + length bits)
-unfolding EndsAt scan ended
-scan-ends [] f at = omega arith
-scan-ends (b ∷ bits) f at =
-    let e : suc at + length bits ≡ at + suc (length bits) = omega arith in
-    let later = rw e at (scan-ends bits (step f b) (suc at)) in
-    scan-cons (λ (s : Scan). EndsAt (s .check) (s .at) (at + suc (length bits))) f at b bits later
-    (stopped-ends (check f) f b at (scan (step f b) (suc at) bits) (at + suc (length bits)) later)
-
--- End is told of such a scan only
+-- End is told only of a scan that no body stopped
 end-ends : (c : Check) (bytes : List ℕ) (r : Receiver) (store : List ℕ) (at end : ℕ) → isEnd (noticed c bytes r store .notice) ≡ true → EndsAt c at end → at ≡ end
-unfolding noticed isEnd EndsAt
+unfolding noticed isEnd
 end-ends (Packet n) bytes r store at end e h = absurd (true≢false (sym e ∙ passed-tells r store (take n bytes)))
 end-ends SpoiltBody bytes r store at end e h = absurd (true≢false (sym e))
 end-ends Nothing bytes r store at end e h = h
@@ -157,11 +102,11 @@ module _ (list store : List ℕ) (reads : List ReadCall) (c : ReadCall) where
 
     -- fewer bits tell nothing
     fewer-quiet : (j : ℕ) → j < k → toldByJudged (e .receiver) (e .store) (gives (closings (e .receiver .framing) 0 (take j lent))) ≡ []
-    unfolding Quiet
+    unfolding toldByJudged notNothing
     fewer-quiet j h =
         let short : j ≤ length part = omega (arith, k-within, length-part) in
         rw (← take-slice (c .from) (c .to) j (bitsOf (c .bytes)) short, gives-from (take j part) (e .receiver .framing) 0 (c .from))
-        (scan-quiet part (e .receiver .framing) (c .from) j (rw k-is at h) (e .receiver) (e .store))
+        (tell-same (gives (closings (e .receiver .framing) (c .from) (take j part))) [] (scan-quiet part (e .receiver .framing) (c .from) j (rw k-is at h)) (e .receiver) (e .store))
 
     -- all k tell the notice
     all-tell : toldByJudged (e .receiver) (e .store) (gives (closings (e .receiver .framing) 0 (take k lent)))

@@ -21,7 +21,7 @@ use Rattle.framing.specs.declared.Check.{Check}
 use Rattle.framing.specs.declared.Check.the-variants.{Packet, Nothing}
 use Rattle.framing.specs.declared.Check.the-variants.{Spoilt as SpoiltBody}
 use Rattle.framing.specs.declared.Scan.{Scan}
-use Rattle.framing.specs.Machine.{run, closes, check}
+use Rattle.framing.specs.Machine.{run}
 use Rattle.framing.specs.Machine.{fresh as freshFraming}
 use Rattle.framing.specs.Closings.{notNothing, givenBy, closings}
 use Rattle.framing.specs.Scanning.{scan}
@@ -47,7 +47,7 @@ notNothing-tell (spoilt ∷ js) r store = rw (notNothing-tell js r store)
 notNothing-tell (nothing ∷ js) r store = notNothing-tell js r store
 
 -- bodies that give the same tell the same, with bodies behind them too
-tell-same : (js ks : List Judged) → notNothing js ≡ notNothing ks → (r : Receiver) (store : List ℕ) → toldByJudged r store js ≡ toldByJudged r store ks
+pub tell-same : (js ks : List Judged) → notNothing js ≡ notNothing ks → (r : Receiver) (store : List ℕ) → toldByJudged r store js ≡ toldByJudged r store ks
 tell-same js ks e r store = notNothing-tell js r store ∙ rw e (sym (notNothing-tell ks r store))
 
 tell-same-then : (js ks ls : List Judged) → notNothing js ≡ notNothing ks

@@ -5,13 +5,13 @@ use denote.Ref.{now}
 use lib.ListN.{replicate}
 use Rattle.layout.specs.Layout.{lowBytes}
 use Rattle.layout.proofs.Copies.{two-written}
-use Rattle.framing_layout.specs.FramingBytes.{bodyNumber, lengthGiven, framingAnswerBytes}
+use Rattle.framing_layout.specs.FramingBytes.{stopNumber, lengthGiven, framingAnswerBytes}
 use borrow.Author.Needs.{needs}
 use Rattle.framing_layout.proofs.put_answer.Statement.{statement}
 use Rattle.framing_layout.proofs.put_answer.Tie as tie
 
-body-number-requires : tie.Need-body-number-requires
-body-number-requires c κs = search needs
+stop-number-requires : tie.Need-stop-number-requires
+stop-number-requires c κs = search needs
 
 length-given-requires : tie.Need-length-given-requires
 length-given-requires c κs = search needs
@@ -35,15 +35,15 @@ returns : tie.Need-returns
 unfolding framingAnswerBytes lowBytes
 returns c =
     let a = c .before .before .before .before .before .before .before .before .before .before .before .before .before .args in
-    let body = bodyNumber (a .check) ∷ lowBytes 1 (lengthGiven (a .check)) ++ replicate 6 0 in
+    let body = stopNumber (a .check) ∷ lowBytes 1 (lengthGiven (a .check)) ++ replicate 6 0 in
     two-written (now (a .bytes)) 0 8 body (lowBytes 8 (a .read)) refl
-    (c .before .before .before .before .before .before .copy-in .ensures ∙ rw (c .before .before .before .before .before .before .before .before .before .before .before .body-number .ensures, c .before .before .before .before .before .before .before .before .before .low-byte .ensures, c .before .before .before .before .before .before .before .before .before .before .length-given .ensures)) (c .before .before .put-number .ensures)
+    (c .before .before .before .before .before .before .copy-in .ensures ∙ rw (c .before .before .before .before .before .before .before .before .before .before .before .stop-number .ensures, c .before .before .before .before .before .before .before .before .before .low-byte .ensures, c .before .before .before .before .before .before .before .before .before .before .length-given .ensures)) (c .before .before .put-number .ensures)
 
 pub put-answer-spec : {M : Type 1} → statement M
 put-answer-spec =
     tie.close
     (tie.spec
-    body-number-requires
+    stop-number-requires
     length-given-requires
     low-byte-requires
     slice-aggregate-copy-in

@@ -6,6 +6,12 @@ use borrow.Author.Needs.{needs}
 use Rattle.framing_layout.proofs.call.read.Statement.{statement}
 use Rattle.framing_layout.proofs.call.read.Tie as tie
 
+returns-2 : tie.Need-returns-2
+unfolding framingScan
+returns-2 c =
+    read-scanned _ _ _ _ _ _ (c .before .before .before .before .before .before .before .before .before .before .before .before .before .before .before .before .before .before .before .framing-in .ensures) (c .before .before .before .before .before .before .before .before .before .before .before .before .before .before .before .before .before .before .refusal .ensures) (c .before .before .before .before .before .before .before .before .before .before .before .before .before .before .before .before .before .if1 .left) (c .before .before .before .before .before .before .before .before .before .before .before .before .before .before .before .before .scan .ensures) (c .before .before .before .before .before .before .before .before .before .before .before .put-framing .ensures)
+    (c .before .before .before .before .before .before .before .length-given .ensures) (c .before .before .before .before .before .before .put-packet .ensures) (c .before .before .put-answer .ensures)
+
 framing-in-requires : tie.Need-framing-in-requires
 framing-in-requires c κs = search needs
 
@@ -49,12 +55,6 @@ same-length-3 c = search needs
 
 same-length-4 : tie.Need-same-length-4
 same-length-4 c = search needs
-
-returns-2 : tie.Need-returns-2
-unfolding framingScan
-returns-2 c =
-    read-scanned _ _ _ _ _ _ (c .before .before .before .before .before .before .before .before .before .before .before .before .before .before .before .before .before .before .before .framing-in .ensures) (c .before .before .before .before .before .before .before .before .before .before .before .before .before .before .before .before .before .before .refusal .ensures) (c .before .before .before .before .before .before .before .before .before .before .before .before .before .before .before .before .before .if1 .left) (c .before .before .before .before .before .before .before .before .before .before .before .before .before .before .before .before .scan .ensures) (c .before .before .before .before .before .before .before .before .before .before .before .put-framing .ensures)
-    (c .before .before .before .before .before .before .before .length-given .ensures) (c .before .before .before .before .before .before .put-packet .ensures) (c .before .before .put-answer .ensures)
 
 put-packet-requires : tie.Need-put-packet-requires
 unfolding framingScan
