@@ -21,4 +21,3 @@ pub mod DroppedBlocks
 pub mod ReplacedByOnes
 pub mod CleanChannel
 pub mod OnChannels
-pub mod Examples

@@ -1,0 +1,1 @@
+// Demand 3 on closed passes: no code, only theorems.
