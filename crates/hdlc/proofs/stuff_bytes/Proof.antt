@@ -1,7 +1,7 @@
 -- `hdlc::stuff_bytes` meets its contract. The loop's invariant: the bits of the bytes left, written from here, are all of them
 -- written from the start, and so is the FCS register.
-use Prim.Native.Nat.{_+_, _-_, _≤_, _<_}
-use mathlib.Core.Path.{_≡_, refl}
+use Prim.Native.Nat.{ℕ, _+_, _-_, _≤_, _<_}
+use mathlib.Core.Path.{_≡_, refl, ap, sym, _∙_}
 use native.Mathlib.Omega.{arith}
 use lib.ListN.{length, getD, drop}
 use Rattle.bits.specs.Bits.{byteBits, bitsOf}
@@ -61,7 +61,7 @@ loop-again c =
       omega arith,
       ToGo-step (l .loop .inv .1) byte (bitsOf (drop (i + 1) bytes)) (bitsOf-step bytes i below)
           (Stuffed-Put byte (put .ensures)) (put .kept .0),
-      cc (Stuffed-fcs byte (put .ensures), fcsRun-bitsOf (l .loop .p .fcs) bytes i below, l .loop .inv .2),
+      ap (λ (r : ℕ). fcsRun r (bitsOf (drop (i + 1) bytes))) (Stuffed-fcs byte (put .ensures)) ∙ sym (fcsRun-bitsOf (l .loop .p .fcs) bytes i below) ∙ l .loop .inv .2,
     )
 
 same-length : tie.Need-same-length Inv-loop μ-loop

@@ -43,7 +43,8 @@ loop-again c =
     let l = c .before .before .loop in
     let bits = lowBits-step 8 (l .k) (l .rest) (c .before .loop-test .taken) in
     let left = lowBits (8 - (l .k + 1)) (l .rest / 2) in
-    (omega arith, cc (c .pass-bit .ensures, penPast-append (l .p) (odd (l .rest) ∷ []) left, bits, l .inv .1))
+    let here = ap (λ (p : Pen). penPast p left) (c .pass-bit .ensures) in
+    (omega arith, here ∙ sym (penPast-append (l .p) (odd (l .rest) ∷ []) left) ∙ ap (penPast (l .p)) (sym bits) ∙ l .inv .1)
 
 fcs-byte-requires : tie.Need-fcs-byte-requires Inv-loop μ-loop
 fcs-byte-requires c κs = tt
@@ -53,7 +54,8 @@ returns c =
     let l = c .before .before .loop in
     let s = c .before .before .before in
     let none = lowBits-none 8 (l .k) (l .rest) (c .before .loop-test .left) in
-    penPast-penAfter (s .args .pen) (l .p) (byteBits (s .args .byte)) (cc (penPast-nil (l .p), none, l .inv .1)) (c .fcs-byte .ensures)
+    let past = sym (penPast-nil (l .p)) ∙ ap (penPast (l .p)) (sym none) ∙ l .inv .1 in
+    penPast-penAfter (s .args .pen) (l .p) (byteBits (s .args .byte)) past (c .fcs-byte .ensures)
 
 pub pass-byte-spec : {M : Type 1} → statement M
 pass-byte-spec =

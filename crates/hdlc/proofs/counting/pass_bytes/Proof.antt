@@ -46,13 +46,15 @@ loop-again c =
     let bytes = c .before .before .before .before .before .args .bytes .now in
     let bits = bitsOf-step bytes (l .i) (c .before .before .loop-test .taken) in
     let left = bitsOf (drop (l .i + 1) bytes) in
-    (omega arith, cc (c .pass-byte .ensures, penAfter-append (l .p) (byteBits (getD bytes (l .i) 0)) left, bits, l .inv .1))
+    let byte = byteBits (getD bytes (l .i) 0) in
+    let here = ap (λ (p : Pen). penAfter p left) (c .pass-byte .ensures) in
+    (omega arith, here ∙ sym (penAfter-append (l .p) byte left) ∙ ap (penAfter (l .p)) (sym bits) ∙ l .inv .1)
 
 returns : tie.Need-returns Inv-loop μ-loop
 returns c =
     let l = c .before .loop in
     let none = bitsOf-none (c .before .before .before .args .bytes .now) (l .i) (c .loop-test .left) in
-    cc (penAfter-nil (l .p), none, l .inv .1)
+    sym (penAfter-nil (l .p)) ∙ ap (penAfter (l .p)) (sym none) ∙ l .inv .1
 
 pub pass-bytes-spec : {M : Type 1} → statement M
 pass-bytes-spec =

@@ -1,7 +1,7 @@
 -- `hdlc::counting::pass_end` meets its contract: the FCS's low byte, its high byte and a flag are passed in turn.
 use native.Mathlib.Omega.{arith}
 use mathlib.Core.List.{_++_}
-use mathlib.Core.Path.{_≡_, refl, ap}
+use mathlib.Core.Path.{_≡_, refl, ap, sym, _∙_}
 use borrow.Author.Needs.{needs}
 use Rattle.fcs.specs.Fcs.{complement}
 use Rattle.hdlc.specs.Writing.{penAfter}
@@ -39,7 +39,7 @@ both : (c : tie.After-struct-known2) →
 unfolding complement
 both c =
     let pen = c .before .before .before .before .args .pen in
-    cc (c .before .pass-byte2 .ensures, c .before .before .pass-byte .ensures, penAfter-append pen (low pen) (high pen))
+    c .before .pass-byte2 .ensures ∙ ap (λ (p : Pen). penAfter p (high pen)) (c .before .before .pass-byte .ensures) ∙ sym (penAfter-append pen (low pen) (high pen))
 
 add-result : tie.Need-add-result
 add-result c = omega (arith, ap (λ (p : Pen). p .at) (both c), at-ending (c .before .before .before .before .args .pen))
