@@ -98,17 +98,21 @@ unfolding heldBits
 InBody-fifth y f b =
     record { phase = 2; ones = 0; kept = y ++ (true ∷ []); is = step-body-fifth y f b; few = refl; bits = append-nil (y ++ (true ∷ [])) }
 
+-- bits written otherwise
+InBody-same : {room : ℕ} {y z : List Bool} {f : Framing} → y ≡ z → InBody room y f → InBody room z f
+InBody-same e b = record { phase = b .phase; ones = b .ones; kept = b .kept; is = b .is; few = b .few; bits = b .bits ∙ e }
+
 -- stuffed bits read: the bits before stuffing are there
 pub InBody-stuffFrom : (bs : List Bool) (room : ℕ) (y : List Bool) (f : Framing) → InBody room y f →
     InBody (roomAfter bs room) (y ++ bs) (run f (stuffFrom bs room))
 unfolding stuffFrom roomAfter run
-InBody-stuffFrom [] room y f b = rw (append-nil y) b
+InBody-stuffFrom [] room y f b = InBody-same (sym (append-nil y)) b
 InBody-stuffFrom (false ∷ bs) room y f b =
-    rw (append-snoc y false bs) at (InBody-stuffFrom bs 4 (y ++ (false ∷ [])) (step f false) (InBody-zero room y f b))
+    InBody-same (append-snoc y false bs) (InBody-stuffFrom bs 4 (y ++ (false ∷ [])) (step f false) (InBody-zero room y f b))
 InBody-stuffFrom (true ∷ bs) zero y f b =
-    rw (append-snoc y true bs) at (InBody-stuffFrom bs 4 (y ++ (true ∷ [])) (step (step f true) false) (InBody-fifth y f b))
+    InBody-same (append-snoc y true bs) (InBody-stuffFrom bs 4 (y ++ (true ∷ [])) (step (step f true) false) (InBody-fifth y f b))
 InBody-stuffFrom (true ∷ bs) (suc room) y f b =
-    rw (append-snoc y true bs) at (InBody-stuffFrom bs room (y ++ (true ∷ [])) (step f true) (InBody-one room y f b))
+    InBody-same (append-snoc y true bs) (InBody-stuffFrom bs room (y ++ (true ∷ [])) (step f true) (InBody-one room y f b))
 
 -- behind fewer than six ones no bit closes a body
 closings-few : (f : Framing) (n : ℕ) (b : Bool) (bs : List Bool) → f .ones < 6 →

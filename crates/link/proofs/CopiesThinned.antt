@@ -140,6 +140,10 @@ module _ (comes : ℕ → Bool) (n : ℕ) (p : Sent) (ps : List Sent) (is : p .o
       once : those (λ i. not (eqb i (o .number))) (eachOnce (copiesIn (each o bs ++ rest))) ≡ eachOnce (copiesIn rest)
       once = eachOnce-each o rest bs (later .none-placed (o .number) (omega arith))
 
+-- the same arrivals, written otherwise
+Arrived-same : {comes : ℕ → Bool} {n : ℕ} {ps : List Sent} {l m : List Arrival} → l ≡ m → Arrived comes n ps m → Arrived comes n ps l
+Arrived-same e t = rw e t
+
 -- packets counted from n on, of whose copies some are placed and the others wait
 pub arrived : (ps : List Sent) (n : ℕ) (l : List Arrival) (waiting : List Copy) (comes : ℕ → Bool) → Numbered n ps
     → copiesIn l ++ waiting ≡ copiesOf ps → ((i : ℕ) → n ≤ i → comes i ≡ comesIn l i) → Arrived comes n ps l
@@ -155,7 +159,7 @@ arrived (p ∷ ps) n (a ∷ l) waiting comes f e agree =
     let bs : List Bool = a .whole ∷ s .wholes in
     let parts : a ∷ l ≡ each (p .original) bs ++ s .rest = cons-eq (p .original) a l _ (head-eq-of-cons-eq e) (s .parts) in
     let by : (i : ℕ) → n ≤ i → comes i ≡ comesIn (each (p .original) bs ++ s .rest) i = λ i h. agree i h ∙ ap (λ m. comesIn m i) parts in
-    rw parts
+    Arrived-same parts
     (arrived-some comes n p ps (f .0) (a .whole) (s .wholes) (s .rest) (by (p .original .number) (omega arith))
     (arrived ps (suc n) (s .rest) (s .waits) comes (f .2) (s .behind)
     (λ i h. by i (omega arith) ∙ comesIn-other (p .original) (s .rest) bs i (omega arith))))

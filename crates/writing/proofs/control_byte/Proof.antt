@@ -29,7 +29,7 @@ control-requires c κs =
 
 returns : tie.Need-returns
 unfolding controlAt
-returns c = cc (c .control .ensures, c .before .link .ensures, c .before .before .packets .ensures)
+returns c = rw (c .control .ensures, c .before .link .ensures, c .before .before .packets .ensures)
 
 pub control-byte-spec : {M : Type 1} → statement M
 control-byte-spec =
