@@ -302,8 +302,8 @@ uint32_t aes18_receiver_read(uint8_t *record, size_t record_len, uint8_t *store,
  *         refusal = aes18_framing_read(framing, sizeof framing, bits, bits_len, from, to, packet, sizeof packet, answer, sizeof answer);
  *         (leave the loop if it is refused)
  *         from += (the bits read: the number in bytes 8 to 15 of the answer);
- *         (take the packet, if answer[AES18_FRAMING_BODY] is AES18_FRAMING_PACKET: its first byte is the address)
- *     } while (answer[AES18_FRAMING_BODY] != AES18_FRAMING_END);
+ *         (take the packet, if answer[AES18_FRAMING_STOP] is AES18_FRAMING_PACKET: its first byte is the address)
+ *     } while (answer[AES18_FRAMING_STOP] != AES18_FRAMING_END);
  *
  * The next call, with other bytes or the same, goes on as if the bits had never been cut. A cut may be anywhere, inside a flag too.
  *
@@ -324,14 +324,14 @@ uint32_t aes18_framing_read(uint8_t *framing, size_t framing_len, const uint8_t 
                             size_t packet_len, uint8_t *answer, size_t answer_len);
 
 /* Where the numbers stand in a framing read's answer, and where a receiver's record has its framing. */
-#define AES18_FRAMING_BODY 0
+#define AES18_FRAMING_STOP 0
 #define AES18_FRAMING_LENGTH 1
 #define AES18_FRAMING_BITS 8
 #define AES18_RECEIVER_FRAMING 37
 
 /* What a framing read stops at. */
 #define AES18_FRAMING_END 0    /* the bits up to `to` are read */
-#define AES18_FRAMING_SPOILT 1 /* a body that does not pass: the notice SPOILT */
+#define AES18_FRAMING_SPOILT 1 /* a body that does not pass, of 32 bits or more and not void: where the notice SPOILT is told */
 #define AES18_FRAMING_PACKET 2 /* a body that passes */
 
 /*

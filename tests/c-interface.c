@@ -693,12 +693,12 @@ static void read_bodies(int line, struct call *c, uint64_t to, size_t *next)
         is(line, call(line, c, &framing_reading), AES18_ACCEPTED);
         c->from += number(answer + AES18_FRAMING_BITS, 8);
         length = 0;
-        if (answer[AES18_FRAMING_BODY] != AES18_FRAMING_END) {
+        if (answer[AES18_FRAMING_STOP] != AES18_FRAMING_END) {
             is(line, *next < COUNT(bodies), 1);
             if (*next == COUNT(bodies))
                 return;
             length = bodies[*next].length;
-            is(line, answer[AES18_FRAMING_BODY], length > 0 ? AES18_FRAMING_PACKET : AES18_FRAMING_SPOILT);
+            is(line, answer[AES18_FRAMING_STOP], length > 0 ? AES18_FRAMING_PACKET : AES18_FRAMING_SPOILT);
             is(line, c->from, body_end(*next));
             equal(line, c->bytes[PACKET], bodies[*next].packet, length);
             ++*next;
@@ -706,7 +706,7 @@ static void read_bodies(int line, struct call *c, uint64_t to, size_t *next)
         is(line, answer[AES18_FRAMING_LENGTH], length);
         all(line, answer + 2, 0, 6);
         all(line, c->bytes[PACKET] + length, OLD, AES18_LONGEST_PACKET - length);
-    } while (answer[AES18_FRAMING_BODY] != AES18_FRAMING_END);
+    } while (answer[AES18_FRAMING_STOP] != AES18_FRAMING_END);
     is(line, c->from, to);
 }
 
@@ -878,7 +878,7 @@ static void test_framing_side_by_side(void)
     EQUAL(bytes + AES18_RECEIVER_FRAMING, behind_flag, sizeof behind_flag);
     EQUAL(bytes + PLACE, bodies[0].packet, bodies[0].length);
     ALL(bytes + PLACE + bodies[0].length, OLD, AES18_LONGEST_PACKET - bodies[0].length);
-    IS(bytes[ANSWERED + AES18_FRAMING_BODY], AES18_FRAMING_PACKET);
+    IS(bytes[ANSWERED + AES18_FRAMING_STOP], AES18_FRAMING_PACKET);
     IS(number(bytes + ANSWERED + AES18_FRAMING_BITS, 8), body_end(0));
 }
 

@@ -10,7 +10,7 @@ use crate::refusal::Refusal;
 /// It is a value of 24 bytes; a copy of it is a framing of its own. Bits may be given cut at any place:
 ///
 /// ```
-/// use aes18::{Body, Circuit, Framing, Sender, SENDER_STORE};
+/// use aes18::{Stop, Circuit, Framing, Sender, SENDER_STORE};
 ///
 /// # fn main() -> Result<(), aes18::Refusal> {
 /// # let circuit = |address| Circuit { address, extension: None };
@@ -26,15 +26,15 @@ use crate::refusal::Refusal;
 /// // The first 50 bits end inside a frame; there is nothing to tell yet.
 /// let mut framing = Framing::new();
 /// let read = framing.read(&bits, 0, 50)?;
-/// assert_eq!((read.body, read.bits), (Body::End, 50));
+/// assert_eq!((read.stop, read.bits), (Stop::End, 50));
 ///
 /// // The next call goes on from there, and stops behind the torn frame's closing flag.
 /// let read = framing.read(&bits, 50, 320)?;
-/// assert_eq!(read.body, Body::Spoilt);
+/// assert_eq!(read.stop, Stop::Spoilt);
 ///
 /// // Then comes the packet of circuit 2A, which nobody had to list.
 /// let read = framing.read(&bits, 50 + read.bits, 320)?;
-/// let Body::Packet(packet) = read.body else { panic!() };
+/// let Stop::Packet(packet) = read.stop else { panic!() };
 /// assert_eq!(packet.as_bytes(), b"\x2A\x80\x0Adoors shut");
 /// # Ok(())
 /// # }
@@ -44,7 +44,7 @@ use crate::refusal::Refusal;
 /// receiver, and reads the bits that this call read, has the packet behind the notice. Bits need not be kept for it:
 ///
 /// ```
-/// use aes18::{Body, Circuit, Notice, Receiver, Sender, RECEIVER_STORE, SENDER_STORE};
+/// use aes18::{Stop, Circuit, Notice, Receiver, Sender, RECEIVER_STORE, SENDER_STORE};
 ///
 /// # fn main() -> Result<(), aes18::Refusal> {
 /// # let circuit = |address| Circuit { address, extension: None };
@@ -61,7 +61,7 @@ use crate::refusal::Refusal;
 /// let read = receiver.read(&mut store, &bits, 50, 320)?;
 /// assert_eq!(read.notice, Notice::Elsewhere);
 ///
-/// let Body::Packet(packet) = framing.read(&bits, 50, 50 + read.bits)?.body else { panic!() };
+/// let Stop::Packet(packet) = framing.read(&bits, 50, 50 + read.bits)?.stop else { panic!() };
 /// assert_eq!(packet[0], 0x2A);
 /// assert_eq!(framing, receiver.framing());
 /// # Ok(())
@@ -76,17 +76,17 @@ pub struct Framing {
 #[derive(Clone, Copy, Debug, PartialEq, Eq)]
 pub struct FramingRead {
     /// What the call stopped at.
-    pub body: Body,
+    pub stop: Stop,
     /// How many bits it read; the next call goes on behind them.
     pub bits: u64,
 }
 
 /// What a framing's read stopped at: the body of a frame, or the end of the bits.
 #[derive(Clone, Copy, Debug, PartialEq, Eq)]
-pub enum Body {
+pub enum Stop {
     /// All bits are read and there is nothing more to tell.
     End,
-    /// A body that unstuffs to 32 bits or more and does not pass: its end, its length or its FCS is wrong.
+    /// A body that unstuffs to 32 bits or more, has no seven ones in a row and does not pass: its end, its length or its FCS is wrong.
     Spoilt,
     /// A body that passes: this is its packet. Whether a sender makes such a packet, or it is malformed, is not looked at.
     Packet(Packet),
@@ -101,21 +101,21 @@ impl Framing {
     }
 
     /// Reads the bits numbered `from` up to, but not with, `to`, and stops behind the first body that passes or is spoilt, or at the end with
-    /// [`Body::End`]. Bit 0 is the lowest bit of the first byte. So it stops where a receiver's read gives a notice.
+    /// [`Stop::End`]. Bit 0 is the lowest bit of the first byte. So it stops where a receiver's read gives a notice.
     ///
     /// # Errors
     ///
     /// The first of these refusals that applies: 14, 15.
     pub fn read(&mut self, bits: &[u8], from: u64, to: u64) -> Result<FramingRead, Refusal> {
         let mut bytes = [0; LONGEST_PACKET];
-        let [body, length, _, _, _, _, _, _, read @ ..] =
+        let [stop, length, _, _, _, _, _, _, read @ ..] =
             calls::framing_read(&mut self.record, bits, from, to, &mut bytes)?;
         Ok(FramingRead {
-            body: match body {
-                0 => Body::End,
-                1 => Body::Spoilt,
-                2 => Body::Packet(Packet::of(bytes, usize::from(length))),
-                _ => unreachable!("a framing's read answers body 0 to 2"),
+            stop: match stop {
+                0 => Stop::End,
+                1 => Stop::Spoilt,
+                2 => Stop::Packet(Packet::of(bytes, usize::from(length))),
+                _ => unreachable!("a framing's read answers 0 to 2"),
             },
             bits: u64::from_le_bytes(read),
         })

@@ -85,7 +85,7 @@ mod system;
 mod totals;
 
 pub use circuit::Circuit;
-pub use framing::{Body, Framing, FramingRead};
+pub use framing::{Framing, FramingRead, Stop};
 pub use lengths::{
     FRAMING_RECORD, LINE_RECORD, LONGEST_LINE_FRAME, LONGEST_MESSAGE, LONGEST_PACKET,
     RECEIVER_RECORD, RECEIVER_STORE, REGION, SENDER_RECORD, SENDER_STORE, SHORTEST_PACKET,

@@ -1,6 +1,6 @@
 //! The framing alone: bodies of every kind, bits cut anywhere, refusals, the packet behind a receiver's notice, and records of any bytes.
 
-use aes18::{ffi, Body, Framing, Notice, Receiver, Refusal};
+use aes18::{ffi, Framing, Notice, Receiver, Refusal, Stop};
 use aes18::{FRAMING_RECORD, LONGEST_PACKET, RECEIVER_STORE, SHORTEST_PACKET};
 
 use super::frames::{bits_of, bytes_of, framed, plain};
@@ -26,8 +26,8 @@ fn all_framed(packets: &[Vec<u8>]) -> Vec<bool> {
     framed(&packets)
 }
 
-/// The bodies that a framing tells in bits read up to each of these ends, with the place behind each.
-fn read_on(framing: &mut Framing, bits: &[bool], ends: &[u64]) -> Vec<(u64, Body)> {
+/// What a framing stops at in bits read up to each of these ends, with the place behind each.
+fn read_on(framing: &mut Framing, bits: &[bool], ends: &[u64]) -> Vec<(u64, Stop)> {
     let bytes = bytes_of(bits);
     let mut told = Vec::new();
     let mut from = 0;
@@ -35,9 +35,9 @@ fn read_on(framing: &mut Framing, bits: &[bool], ends: &[u64]) -> Vec<(u64, Body
         loop {
             let read = framing.read(&bytes, from, *to).unwrap();
             from += read.bits;
-            match read.body {
-                Body::End => break,
-                body => told.push((from, body)),
+            match read.stop {
+                Stop::End => break,
+                stop => told.push((from, stop)),
             }
         }
         assert_eq!(from, *to);
@@ -45,19 +45,19 @@ fn read_on(framing: &mut Framing, bits: &[bool], ends: &[u64]) -> Vec<(u64, Body
     told
 }
 
-/// The bodies that a fresh framing tells in bits given at once.
-fn read(bits: &[bool]) -> Vec<Body> {
+/// What a fresh framing stops at in bits given at once.
+fn read(bits: &[bool]) -> Vec<Stop> {
     let told = read_on(&mut Framing::new(), bits, &[bits.len() as u64]);
-    told.into_iter().map(|(_, body)| body).collect()
+    told.into_iter().map(|(_, stop)| stop).collect()
 }
 
-/// The bytes of the packets among bodies.
-fn packets_of(bodies: &[Body]) -> Vec<Vec<u8>> {
-    let packet = |body: &Body| match body {
-        Body::Packet(packet) => Some(packet.to_vec()),
+/// The bytes of the packets among what a framing stopped at.
+fn packets_of(stops: &[Stop]) -> Vec<Vec<u8>> {
+    let packet = |stop: &Stop| match stop {
+        Stop::Packet(packet) => Some(packet.to_vec()),
         _ => None,
     };
-    bodies.iter().filter_map(packet).collect()
+    stops.iter().filter_map(packet).collect()
 }
 
 /// Packets of every length, and a torn one behind them, come from bits cut in two at any place and in parts of any length, each at the same bit.
@@ -68,9 +68,9 @@ fn bits_may_be_cut_anywhere() {
     bits[torn] = !bits[torn];
     let end = bits.len() as u64;
     let whole = read_on(&mut Framing::new(), &bits, &[end]);
-    let bodies: Vec<Body> = whole.iter().map(|(_, body)| *body).collect();
-    assert_eq!(bodies.last(), Some(&Body::Spoilt));
-    assert_eq!(packets_of(&bodies), packets());
+    let stops: Vec<Stop> = whole.iter().map(|(_, stop)| *stop).collect();
+    assert_eq!(stops.last(), Some(&Stop::Spoilt));
+    assert_eq!(packets_of(&stops), packets());
     for step in 1..=end {
         let told = read_on(&mut Framing::new(), &bits, &[step, end]);
         assert_eq!(told, whole, "cut behind {step} bits");
@@ -91,11 +91,11 @@ fn bodies_that_do_not_pass() {
         assert_eq!(body(&zeros[..length]), [], "{length} bits");
     }
     for length in [32, 33, 40, 168, 169, 176, 300] {
-        assert_eq!(body(&zeros[..length]), [Body::Spoilt], "{length} bits");
+        assert_eq!(body(&zeros[..length]), [Stop::Spoilt], "{length} bits");
     }
     let packet = |length| read(&framed(&[&vec![0x41; length]]));
     assert_eq!([packet(0), packet(1)], [[], []]);
-    assert_eq!(packet(LONGEST_PACKET + 1), [Body::Spoilt]);
+    assert_eq!(packet(LONGEST_PACKET + 1), [Stop::Spoilt]);
     let right = framed(&[b"abc"]);
     let void = [&right[..20], &[true; 7], &right[20..]].concat();
     assert_eq!(read(&void), []);
@@ -114,7 +114,7 @@ fn five_ones_at_the_end() {
     let mut bits = framed(&[&packet]);
     assert_eq!(packets_of(&read(&bits)), [&packet[..]]);
     bits.remove(bits.len() - 9);
-    assert_eq!(read(&bits), [Body::Spoilt]);
+    assert_eq!(read(&bits), [Stop::Spoilt]);
 }
 
 /// Flags may share their 0, stand in a row or stand behind noise; six ones at the start of all bits are no flag.
@@ -138,9 +138,9 @@ fn a_fresh_framing() {
     assert_eq!(framing, Framing::default());
     assert_eq!(framing.as_bytes(), &[0; FRAMING_RECORD]);
     let read = framing.read(&[], 0, 0).unwrap();
-    assert_eq!((read.body, read.bits), (Body::End, 0));
+    assert_eq!((read.stop, read.bits), (Stop::End, 0));
     let read = framing.read(&[0xFF; 5], 3, 38).unwrap();
-    assert_eq!((read.body, read.bits), (Body::End, 35));
+    assert_eq!((read.stop, read.bits), (Stop::End, 35));
     assert_eq!(framing, Framing::new());
 }
 
@@ -152,12 +152,12 @@ fn one_body_for_each_read() {
     let mut framing = Framing::new();
     let first = framing.read(&bytes, 0, end).unwrap();
     assert_eq!(first.bits, framed(&[b"one"]).len() as u64);
-    assert_eq!(packets_of(&[first.body]), [b"one"]);
+    assert_eq!(packets_of(&[first.stop]), [b"one"]);
     let mut behind_flag = [0; FRAMING_RECORD];
     behind_flag[0] = 2;
     assert_eq!(framing.as_bytes(), &behind_flag);
     let second = framing.read(&bytes, first.bits, end).unwrap();
-    assert_eq!(packets_of(&[second.body]), [b"two"]);
+    assert_eq!(packets_of(&[second.stop]), [b"two"]);
     assert_eq!(first.bits + second.bits, end);
 }
 
@@ -183,13 +183,13 @@ fn the_packet_behind_a_notice() {
             let mut framing = receiver.framing();
             let to = end.min(from + step);
             let read = receiver.read(&mut store, &bytes, from, to).unwrap();
-            let body = framing.read(&bytes, from, from + read.bits).unwrap();
-            assert_eq!(body.bits, read.bits);
+            let again = framing.read(&bytes, from, from + read.bits).unwrap();
+            assert_eq!(again.bits, read.bits);
             assert_eq!(framing, receiver.framing());
-            assert_eq!(body.body == Body::End, read.notice == Notice::End);
-            assert_eq!(body.body == Body::Spoilt, read.notice == Notice::Spoilt);
+            assert_eq!(again.stop == Stop::End, read.notice == Notice::End);
+            assert_eq!(again.stop == Stop::Spoilt, read.notice == Notice::Spoilt);
             from += read.bits;
-            told.push(body.body);
+            told.push(again.stop);
             notices.push(read.notice);
         }
         assert_eq!(packets_of(&told), packets, "{step} bits at a time");
