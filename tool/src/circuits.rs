@@ -2,7 +2,7 @@
 
 use std::ffi::OsStr;
 
-use aes18::{Circuit, Receiver};
+use aes18::{Circuit, Notice, Receiver};
 
 use crate::error::Error;
 
@@ -10,28 +10,77 @@ use crate::error::Error;
 const EXPECTED: &str =
     "a circuit ADDR or ADDR:EXT, each one or two hex digits, such as 01 or 02:07";
 
+/// The most circuits that can be listed.
+pub const MOST: usize = 4;
+/// The address of system packets.
+const SYSTEM: u8 = 0xFF;
+/// The bit of a packet's control byte that says that an extension stands behind it.
+const EXTENDED: u8 = 0x20;
+
 /// The circuits that the option `--circuits` names.
 pub fn option(value: &OsStr) -> Result<Vec<Circuit>, Error> {
     parse_list(&value.to_string_lossy())
         .map_err(|expected| Error::Usage(format!("--circuits: {expected}")))
 }
 
-/// A fresh receiver for the circuits of the option `--circuits`.
+/// A fresh receiver for circuits. Where there are none, it lists one all the same, which stands for any.
 pub fn receiver(circuits: &[Circuit]) -> Result<Receiver, Error> {
-    Receiver::list(circuits).map_err(|refusal| Error::Data(format!("--circuits: {refusal}")))
+    let any = [Circuit {
+        address: 0,
+        extension: None,
+    }];
+    let circuits = if circuits.is_empty() { &any } else { circuits };
+    Receiver::list(circuits).map_err(|refusal| Error::Data(refusal.to_string()))
 }
 
-/// The circuits of a list, separated by commas or spaces; an error says what was expected.
+/// A notice of a circuit where there are none, as a scan found, is of bits that were not there then.
+pub fn check_listed(circuits: &[Circuit], notice: &Notice, name: &str) -> Result<(), Error> {
+    match notice {
+        Notice::Circuit { .. } if circuits.is_empty() => {
+            Err(Error::Data(format!("{name}: changed while it was read")))
+        }
+        _ => Ok(()),
+    }
+}
+
+/// The circuit of a packet that is of some circuit: the extension stands behind the control byte, whose bit A5 says whether there is one.
+pub fn of_packet(packet: &[u8]) -> Option<Circuit> {
+    let (address, control) = (*packet.first()?, *packet.get(1)?);
+    Some(Circuit {
+        address,
+        extension: match control & EXTENDED {
+            0 => None,
+            _ => Some(*packet.get(2)?),
+        },
+    })
+}
+
+/// The circuits of a list, separated by commas or spaces, such as a listing takes; an error says what was expected.
 pub fn parse_list(text: &str) -> Result<Vec<Circuit>, String> {
     let circuits: Vec<Circuit> = text
         .split([',', ' ', '\t'])
         .filter(|word| !word.is_empty())
         .map(parse)
         .collect::<Result<_, _>>()?;
-    if circuits.is_empty() {
-        return Err(format!("expected {EXPECTED}"));
+    match circuits.len() {
+        0 => Err(format!("expected {EXPECTED}")),
+        1..=MOST => check(&circuits).map(|()| circuits),
+        more => Err(format!("expected one to four circuits, not {more}")),
     }
-    Ok(circuits)
+}
+
+/// Circuits of which a listing refuses one are told in its order: an address FF hex, then two alike.
+fn check(circuits: &[Circuit]) -> Result<(), String> {
+    if let Some(circuit) = circuits.iter().find(|circuit| circuit.address == SYSTEM) {
+        return Err(format!(
+            "expected an address from 00 to FE, not {circuit}: FF is that of system packets"
+        ));
+    }
+    let again = |place: &usize| circuits[..*place].contains(&circuits[*place]);
+    match (0..circuits.len()).find(again) {
+        Some(place) => Err(format!("{} is listed twice", circuits[place])),
+        None => Ok(()),
+    }
 }
 
 /// One circuit.
@@ -81,7 +130,7 @@ mod tests {
         ] {
             assert_eq!(parse_list(text), Ok(both.clone()), "{text}");
         }
-        assert_eq!(parse_list("fF:Ab"), Ok(vec![circuit(0xFF, Some(0xAB))]));
+        assert_eq!(parse_list("fE:Ab"), Ok(vec![circuit(0xFE, Some(0xAB))]));
     }
 
     #[test]
@@ -94,5 +143,42 @@ mod tests {
         for text in ["", " ", ",,"] {
             assert!(parse_list(text).is_err(), "{text:?}");
         }
+    }
+
+    /// What a listing refuses, in its order, in other words.
+    #[test]
+    fn lists_that_a_listing_refuses() {
+        let four = "expected one to four circuits, not";
+        let system = "expected an address from 00 to FE, not";
+        for (text, error) in [
+            ("1 2 3 4 5", format!("{four} 5")),
+            ("FF 1 1 1 1 1", format!("{four} 6")),
+            (
+                "1 1 FF",
+                format!("{system} FF: FF is that of system packets"),
+            ),
+            (
+                "ff:7",
+                format!("{system} FF:07: FF is that of system packets"),
+            ),
+            ("1 2:7 3 2:07", "02:07 is listed twice".to_string()),
+            ("1 0x01", "01 is listed twice".to_string()),
+        ] {
+            assert_eq!(parse_list(text), Err(error), "{text}");
+            let circuits: Vec<Circuit> = text.split(' ').map(|word| parse(word).unwrap()).collect();
+            assert!(Receiver::list(&circuits).is_err(), "{text}");
+        }
+        for text in ["1 1:0", "1:0 1:1", "0 fe"] {
+            assert!(Receiver::list(&parse_list(text).unwrap()).is_ok(), "{text}");
+        }
+    }
+
+    #[test]
+    fn circuits_of_packets() {
+        let of = |packet: &[u8]| of_packet(packet).map(|circuit| circuit.to_string());
+        assert_eq!(of(b"\x01\x81\x02hi").as_deref(), Some("01"));
+        assert_eq!(of(b"\x7E\xA1\x07\x02hi").as_deref(), Some("7E:07"));
+        assert_eq!(of(b"\x01\xDF\x02").as_deref(), Some("01"));
+        assert_eq!((of(b"\x01"), of(b"\x01\x20")), (None, None));
     }
 }

@@ -5,7 +5,6 @@ mod folder;
 mod format;
 mod json;
 mod line;
-pub mod progress;
 mod text;
 
 use std::ffi::OsString;
@@ -19,19 +18,20 @@ use crate::error::Error;
 use crate::formats::{self, Choice};
 use crate::frames;
 use crate::input::{Chunk, Content, Input};
-use crate::output::{say_raw, Unread};
+use crate::output::{folded, say, say_raw, Unread};
+use crate::progress::Progress;
+use crate::scan::Listening;
 use counts::Counts;
 use folder::Folder;
 use format::{Format, Told, Unit};
 use json::Json;
 use line::Line;
-use progress::Progress;
 use text::Text;
 
 pub const HELP: &str = r#"aes18 decode: tell what is in filed user bits, or on a serial line
 
-Usage: aes18 decode --circuits ADDR[:EXT],.. [--json] [--messages DIR] BITS
-       aes18 decode --line --circuits ADDR[:EXT],.. [..] LINE
+Usage: aes18 decode [--circuits ADDR[:EXT],..] [--json] [--messages DIR] BITS
+       aes18 decode --line [--circuits ADDR[:EXT],..] [..] LINE
 
   BITS               the file of user bits, or - for the standard input
   --format FORMAT    bits: eight in a byte, the first in the lowest bit, as
@@ -41,13 +41,23 @@ Usage: aes18 decode --circuits ADDR[:EXT],.. [--json] [--messages DIR] BITS
   --line             read the bytes of a serial line, such as aes18 line writes,
                      in place of user bits
   --circuits LIST    one to four circuits to listen to, such as 01,02:07:
-                     address and extension in hex, divided by commas or spaces
+                     address and extension in hex, divided by commas or spaces;
+                     without it those four with most packets
   --json             one JSON object a line
   --messages DIR     write each message handed over to a file of its own in DIR,
                      which is made where it is missing: 000001-01.bin, then
                      000002-02-07.bin, by order, address and extension; a folder
-                     with such files in it is refused
+                     with such files in it is refused; a file appears there
+                     when it is complete
+  -q, --quiet        say nothing but errors on the standard error
   -h, --help         print this help
+
+Without --circuits a first reading scans the file as aes18 scan does, or in the
+same way the packets of LINE. The four circuits with most packets, copies not
+counted, are then listened to, of those with as many those heard first. Which,
+and which not, is said on the standard error. Where no packet of a circuit
+passes there is none in the totals, and the other notices are told. The standard
+input, a pipe or a device is told as it comes, and needs --circuits.
 
 A line for each notice: how many bits were read when it was told, which is the
 number, from 0, of the first bit behind the closing flag; then
@@ -64,7 +74,8 @@ number, from 0, of the first bit behind the closing flag; then
         a system packet with its information
   Spoilt       a damaged frame
   Malformed    a frame that is no packet such as a sender makes
-  Elsewhere    a packet of a circuit that is not listed
+  Elsewhere, 7E
+               a packet of a circuit that is not listed, which is named
 
 Messages and information are quoted text with escapes or hex digits, as a plan
 of aes18 encode takes them. At the end stand the totals: for each circuit the
@@ -73,9 +84,11 @@ handed over and their bytes; orphans; and wrong ones. Lost, messages, bytes and
 orphans stop at 4,294,967,295, which stands for that many or more.
 
 With --json a notice has the members bit and notice; System enable and code; a
-circuit's number, circuit, loss and fate; Whole and System also length, hex and,
-if it is printable text, text; and with --messages file. The last object has the
-one member totals.
+circuit's number, circuit, loss and fate; Elsewhere circuit; Whole and System
+also length, hex and, if it is printable text, text; and with --messages file.
+The last object has the one member totals. Without --circuits the first has the
+one member listening, an object with the members to and not, in each a list of
+circuits as objects with the members circuit and packets.
 
 A capture (iec958) has words of 32 bits, the lowest byte first, left and right
 in turn, and no header. The user bit is bit 29 of a word. Which channel a word
@@ -116,7 +129,8 @@ usage.
 
 /// What the command line asks for.
 struct Request {
-    circuits: Vec<Circuit>,
+    /// The circuits listed; where there are none, the file is scanned for them.
+    circuits: Option<Vec<Circuit>>,
     json: bool,
     messages: Option<OsString>,
     content: Content,
@@ -126,7 +140,11 @@ struct Request {
 /// Runs the subcommand. Where messages are written to files, a standard output that is closed does not end the reading.
 pub fn run(args: Args) -> Result<(), Error> {
     let request = Request::parse(args)?;
-    let receiver = circuits::receiver(&request.circuits)?;
+    let listening = request.listening()?;
+    let circuits = match &listening {
+        Some(listening) => listening.circuits(),
+        None => request.circuits.clone().unwrap_or_default(),
+    };
     let mut input = Input::open(&request.file, request.content)?;
     if request.content == Content::Line && input.is_terminal() {
         say_raw(input.name());
@@ -138,17 +156,21 @@ pub fn run(args: Args) -> Result<(), Error> {
     };
     let mut decoder = Decoder {
         name: input.name().to_string(),
-        receiver,
+        receiver: circuits::receiver(&circuits)?,
         store: vec![0; RECEIVER_STORE],
         line: Line::default(),
-        counts: Counts::new(request.unit(), &request.circuits),
-        circuits: request.circuits,
+        counts: Counts::new(request.unit(), &circuits),
+        circuits,
         folder,
+        json: request.json,
         format: if request.json { &Json } else { &Text },
         passed: false,
         out: BufWriter::new(stdout),
     };
-    let mut progress = Progress::new(input.length());
+    if let Some(listening) = listening {
+        decoder.say(&listening)?;
+    }
+    let mut progress = Progress::beside_output(input.length());
     while let Some(chunk) = input.chunk()? {
         decoder.read(&chunk)?;
         progress.add(chunk.read);
@@ -183,21 +205,29 @@ impl Request {
                 Arg::Operand(path) => args::keep_operand(&mut file, path)?,
             }
         }
-        let expected = |what: &str| Error::Usage(format!("expected {what}"));
-        let circuits = circuits.ok_or_else(|| expected("--circuits ADDR[:EXT],.."))?;
+        let expected = match line {
+            true => "a file of a serial line",
+            false => "a file of user bits",
+        };
         Ok(Request {
-            circuits: circuits::option(&circuits)?,
+            circuits: circuits.as_deref().map(circuits::option).transpose()?,
             json,
             messages,
             content: match line {
                 true => choice.refuse_with("--line").map(|()| Content::Line)?,
                 false => Content::Bits(choice.finish()?),
             },
-            file: file.ok_or_else(|| match line {
-                true => expected("a file of a serial line"),
-                false => expected("a file of user bits"),
-            })?,
+            file: args::needed(file, expected)?,
         })
+    }
+
+    /// The circuits that are found in the file, where none are listed.
+    fn listening(&self) -> Result<Option<Listening>, Error> {
+        match (&self.circuits, self.content) {
+            (Some(_), _) => Ok(None),
+            (None, Content::Bits(formats)) => Listening::in_bits(&self.file, formats).map(Some),
+            (None, _) => Listening::on_line(&self.file).map(Some),
+        }
     }
 
     /// What places are counted in.
@@ -219,6 +249,7 @@ struct Decoder {
     circuits: Vec<Circuit>,
     counts: Counts,
     folder: Option<Folder>,
+    json: bool,
     format: &'static dyn Format,
     /// Whether a frame has passed.
     passed: bool,
@@ -239,13 +270,18 @@ impl Decoder {
     fn read_bits(&mut self, bytes: &[u8], to: u64) -> Result<(), Error> {
         let mut from = 0;
         loop {
+            let framing = self.receiver.framing();
             let read = self.receive(bytes, from, to)?;
-            from += read.bits;
+            let behind = from + read.bits;
             self.counts.read += read.bits;
-            if read.notice == Notice::End {
-                return Ok(());
-            }
-            self.tell(read.notice)?;
+            let packet = match read.notice {
+                Notice::End => return Ok(()),
+                Notice::Elsewhere => frames::packet(framing, bytes, from, behind),
+                _ => Ok(None),
+            };
+            let packet = packet.map_err(|refusal| Error::Data(refusal.to_string()))?;
+            self.tell(read.notice, packet.as_deref())?;
+            from = behind;
         }
     }
 
@@ -271,15 +307,16 @@ impl Decoder {
         match read.notice {
             Notice::Spoilt | Notice::End => Err(self.fault()),
             _ if read.bits < frame.count => Err(self.fault()),
-            notice => self.tell(notice),
+            notice => self.tell(notice, Some(packet)),
         }
     }
 
     /// A call of the receiver.
     fn receive(&mut self, bits: &[u8], from: u64, to: u64) -> Result<Read, Error> {
-        self.receiver
-            .read(&mut self.store, bits, from, to)
-            .map_err(|refusal| Error::Data(refusal.to_string()))
+        let read = self.receiver.read(&mut self.store, bits, from, to);
+        let read = read.map_err(|refusal| Error::Data(refusal.to_string()))?;
+        circuits::check_listed(&self.circuits, &read.notice, &self.name)?;
+        Ok(read)
     }
 
     /// The error where the receiver does not take a packet of the line for one.
@@ -290,8 +327,20 @@ impl Decoder {
         ))
     }
 
-    /// Counts a notice, files its message and tells it.
-    fn tell(&mut self, notice: Notice) -> Result<(), Error> {
+    /// Says which circuits are listened to: to people, or to programs in an object before the first notice.
+    fn say(&mut self, listening: &Listening) -> Result<(), Error> {
+        match self.json {
+            true => writeln!(self.out, "{}", listening.json()),
+            false => {
+                say(&folded(&listening.to_string()));
+                Ok(())
+            }
+        }
+        .map_err(|error| Error::stdout(&error))
+    }
+
+    /// Counts a notice, files its message and tells it. At Elsewhere the packet says which circuit it is of.
+    fn tell(&mut self, notice: Notice, packet: Option<&[u8]>) -> Result<(), Error> {
         self.counts.count(&notice);
         self.passed |= notice != Notice::Spoilt;
         let message = notice.message(&self.store);
@@ -306,6 +355,9 @@ impl Decoder {
             place: self.counts.read,
             notice,
             circuits: &self.circuits,
+            elsewhere: packet
+                .filter(|_| notice == Notice::Elsewhere)
+                .and_then(circuits::of_packet),
             bytes: message.or_else(|| notice.information(&self.store)),
             file: file.as_deref(),
         };

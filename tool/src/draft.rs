@@ -1,17 +1,19 @@
 //! A file that appears only when it is complete.
 
-use std::ffi::{OsStr, OsString};
+use std::ffi::OsStr;
 use std::fs::{self, File};
 use std::io::{self, BufWriter, IsTerminal, Seek, Write};
 use std::path::{Path, PathBuf};
-use std::{env, process};
 
 use crate::error::Error;
 use crate::output::say_raw;
+use crate::scratch::Scratch;
 
-/// A file under a name of its own until it is finished. What stood in its place stays until then, and a draft that is dropped is gone.
+/// The draft's name in its folder.
+const DRAFT: &str = "draft";
+
+/// A file that is nowhere seen until it is finished. What stood in its place stays until then, and a draft that is dropped is gone.
 pub struct Draft {
-    path: PathBuf,
     file: BufWriter<File>,
     target: Target,
     /// The target's name, for messages.
@@ -26,28 +28,23 @@ enum Target {
     Stdout,
     /// A device or a pipe, which gets a copy.
     Stream(PathBuf),
-    /// A file, which is replaced by the draft.
-    File(PathBuf),
+    /// A file, which is replaced by the draft in a folder beside it.
+    File(PathBuf, Scratch),
 }
 
 impl Draft {
     /// Begins a draft of the file of that name, or of the standard output where the name is `-`.
     pub fn new(name: &OsStr) -> Result<Draft, Error> {
-        let target = Target::named(name)?;
-        let (name, path) = match &target {
-            Target::File(path) => (name.to_string_lossy().into_owned(), beside(path)),
-            Target::Stream(_) => (name.to_string_lossy().into_owned(), temporary()),
-            Target::Stdout => ("standard output".to_string(), temporary()),
+        let (target, name) = match name == "-" {
+            true => (Target::Stdout, "standard output".to_string()),
+            false => (Target::named(name)?, name.to_string_lossy().into_owned()),
         };
-        let file = File::options()
-            .read(true)
-            .write(true)
-            .create_new(true)
-            .open(&path)
-            .map_err(|error| Error::file(&name, &error))?;
+        let file = match &target {
+            Target::File(_, folder) => folder.create(DRAFT),
+            Target::Stream(_) | Target::Stdout => tempfile::tempfile(),
+        };
         Ok(Draft {
-            path,
-            file: BufWriter::new(file),
+            file: BufWriter::new(file.map_err(|error| Error::file(&name, &error))?),
             target,
             name,
             serial: false,
@@ -71,7 +68,9 @@ impl Draft {
         let failed = |error: io::Error| Error::file(&self.name, &error);
         let length = write_over(&mut self.file, first).map_err(failed)?;
         match &self.target {
-            Target::File(path) => fs::rename(&self.path, path).map_err(failed)?,
+            Target::File(path, folder) => {
+                fs::rename(folder.path(DRAFT), path).map_err(failed)?;
+            }
             Target::Stream(path) => File::options()
                 .write(true)
                 .open(path)
@@ -96,12 +95,6 @@ impl Draft {
     }
 }
 
-/// Whether two names, of which `-` names no file, stand for the same file.
-pub fn same_file(one: &OsStr, other: &OsStr) -> bool {
-    let file = |name: &OsStr| fs::canonicalize(name).ok().filter(|_| name != "-");
-    file(one).is_some_and(|path| file(other) == Some(path))
-}
-
 /// Writes over a file's first bytes and answers its length.
 fn write_over(file: &mut BufWriter<File>, first: &[u8]) -> io::Result<u64> {
     let length = file.stream_position()?;
@@ -112,33 +105,30 @@ fn write_over(file: &mut BufWriter<File>, first: &[u8]) -> io::Result<u64> {
 }
 
 impl Target {
-    /// What a name on the command line stands for. A link stands for the file that it leads to.
+    /// What the name of a file stands for. A link stands for the file that it leads to.
     fn named(name: &OsStr) -> Result<Target, Error> {
-        if name == "-" {
-            return Ok(Target::Stdout);
-        }
         let path = PathBuf::from(name);
         let expected = |what: &str| Error::Data(format!("{}: expected {what}", path.display()));
         match fs::metadata(&path) {
             Ok(found) if found.is_dir() => Err(expected("a file, not a folder")),
             Ok(found) if !found.is_file() => Ok(Target::Stream(path)),
             _ if path.file_name().is_none() => Err(expected("a file's name")),
-            _ => Ok(Target::File(fs::canonicalize(&path).unwrap_or(path))),
+            _ => {
+                let place = fs::canonicalize(&path).unwrap_or_else(|_| path.clone());
+                let folder = Scratch::new(folder_of(&place));
+                let folder = folder.map_err(|error| Error::file(path.display(), &error))?;
+                Ok(Target::File(place, folder))
+            }
         }
     }
 }
 
-/// A name in the same folder.
-fn beside(path: &Path) -> PathBuf {
-    let mut name = OsString::from(".");
-    name.push(path.file_name().unwrap_or_default());
-    name.push(format!(".{}", process::id()));
-    path.with_file_name(name)
-}
-
-/// A name in the folder for temporary files.
-fn temporary() -> PathBuf {
-    env::temp_dir().join(format!("aes18.{}", process::id()))
+/// The folder that a file is in.
+fn folder_of(path: &Path) -> &Path {
+    match path.parent() {
+        Some(folder) if folder != Path::new("") => folder,
+        _ => Path::new("."),
+    }
 }
 
 impl Write for Draft {
@@ -148,12 +138,5 @@ impl Write for Draft {
 
     fn flush(&mut self) -> io::Result<()> {
         self.file.flush()
-    }
-}
-
-/// A finished file has left the draft's name already.
-impl Drop for Draft {
-    fn drop(&mut self) {
-        let _ = fs::remove_file(&self.path);
     }
 }

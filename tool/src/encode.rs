@@ -12,7 +12,7 @@ use std::ffi::OsString;
 use std::io::{self, Write};
 
 use crate::args::{self, Arg, Args};
-use crate::draft::{self, Draft};
+use crate::draft::Draft;
 use crate::error::Error;
 use crate::formats::{Choice, Formats};
 use crate::output::say;
@@ -36,6 +36,7 @@ Usage: aes18 encode [--format FORMAT] [--channel CHANNEL] PLAN -o BITS
   --channel CHANNEL    left or right, the channel of a capture; left without
                        this option
   --into CAPTURE       put the bits into a capture that is there
+  -q, --quiet          say nothing but errors
   -h, --help           print this help
 
 A plan has one line for each call of the sender, in their order. Empty lines and
@@ -119,35 +120,31 @@ impl Request {
                 Arg::Operand(path) => args::keep_operand(&mut plan, path)?,
             }
         }
-        let expected = |what: &str| Error::Usage(format!("expected {what}"));
-        let plan = plan.ok_or_else(|| expected("a plan"))?;
-        let bits = bits.ok_or_else(|| expected("-o BITS"))?;
-        if draft::same_file(&plan, &bits) {
-            return Err(expected("another file for BITS than PLAN"));
-        }
+        let plan = args::needed(plan, "a plan")?;
+        let bits = args::needed(bits, "-o BITS")?;
+        args::not_the_same(("BITS", &bits), ("PLAN", &plan))?;
         let request = Request {
             plan,
             bits,
             formats: choice.finish()?,
             into,
         };
-        request.check_into().map_err(expected)?;
+        request.check_into()?;
         Ok(request)
     }
 
-    /// What is expected where the capture that the bits go into does not fit the rest.
-    fn check_into(&self) -> Result<(), &'static str> {
+    /// The usage error where the capture that the bits go into does not fit the rest.
+    fn check_into(&self) -> Result<(), Error> {
         let Some(capture) = &self.into else {
             return Ok(());
         };
-        if !matches!(self.formats, Formats::Iec958(_)) {
-            Err("--format iec958 with --into")
-        } else if draft::same_file(capture, &self.bits) {
-            Err("another file for BITS than CAPTURE")
-        } else if capture == "-" && self.plan == "-" {
-            Err("another input for CAPTURE than PLAN")
-        } else {
-            Ok(())
+        let Formats::Iec958(_) = self.formats else {
+            return Err(args::expected("--format iec958 with --into"));
+        };
+        args::not_the_same(("BITS", &self.bits), ("CAPTURE", capture))?;
+        match capture == "-" && self.plan == "-" {
+            true => Err(args::expected("another input for CAPTURE than PLAN")),
+            false => Ok(()),
         }
     }
 

@@ -4,7 +4,7 @@ use std::fmt::Display;
 use std::io;
 use std::process::ExitCode;
 
-use crate::output::say;
+use crate::output::say_error;
 
 /// An error and, by its kind, the exit status.
 #[derive(Debug)]
@@ -50,15 +50,15 @@ impl Error {
     pub fn report(&self) -> ExitCode {
         match self {
             Error::Usage(message) => {
-                say(&format!("aes18: {message}"));
+                say_error(&format!("aes18: {message}"));
                 ExitCode::from(2)
             }
             Error::Data(message) => {
-                say(&format!("aes18: {message}"));
+                say_error(&format!("aes18: {message}"));
                 ExitCode::from(1)
             }
             Error::Line(message) => {
-                say(message);
+                say_error(message);
                 ExitCode::from(1)
             }
             Error::Closed => ExitCode::SUCCESS,

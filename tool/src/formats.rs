@@ -4,7 +4,6 @@ mod capture;
 mod elsewhere;
 mod subframe;
 
-use std::ffi::OsStr;
 use std::fmt::{self, Display, Formatter};
 
 use crate::args::Args;
@@ -39,6 +38,14 @@ pub enum Formats {
     Iec958(Channel),
 }
 
+/// The words that the options take.
+const FORMATS: [(&str, Format); 3] = [
+    ("bits", Format::Bits),
+    ("bits-msb", Format::BitsMsb),
+    ("iec958", Format::Iec958),
+];
+const CHANNELS: [(&str, Channel); 2] = [("left", Channel::Left), ("right", Channel::Right)];
+
 /// What the options `--format` and `--channel` say, so far as they were met.
 #[derive(Default)]
 pub struct Choice {
@@ -50,8 +57,8 @@ impl Choice {
     /// Takes one of the two options with its value, and answers whether it is one.
     pub fn option(&mut self, name: &str, args: &mut Args) -> Result<bool, Error> {
         match name {
-            "--format" => self.format = Some(Format::named(&args.value(Format::EXPECTED)?)?),
-            "--channel" => self.channel = Some(Channel::named(&args.value(Channel::EXPECTED)?)?),
+            "--format" => self.format = Some(args.choice(&FORMATS)?),
+            "--channel" => self.channel = Some(args.choice(&CHANNELS)?),
             _ => return Ok(false),
         }
         Ok(true)
@@ -82,30 +89,7 @@ impl Choice {
     }
 }
 
-impl Format {
-    const EXPECTED: &'static str = "bits, bits-msb or iec958";
-
-    fn named(value: &OsStr) -> Result<Format, Error> {
-        match value.to_str() {
-            Some("bits") => Ok(Format::Bits),
-            Some("bits-msb") => Ok(Format::BitsMsb),
-            Some("iec958") => Ok(Format::Iec958),
-            _ => Err(unknown("--format", Format::EXPECTED, value)),
-        }
-    }
-}
-
 impl Channel {
-    const EXPECTED: &'static str = "left or right";
-
-    fn named(value: &OsStr) -> Result<Channel, Error> {
-        match value.to_str() {
-            Some("left") => Ok(Channel::Left),
-            Some("right") => Ok(Channel::Right),
-            _ => Err(unknown("--channel", Channel::EXPECTED, value)),
-        }
-    }
-
     /// The channel whose word follows in a capture.
     pub fn other(self) -> Channel {
         match self {
@@ -113,12 +97,6 @@ impl Channel {
             Channel::Right => Channel::Left,
         }
     }
-}
-
-/// The usage error of a value that an option does not take.
-fn unknown(option: &str, expected: &str, value: &OsStr) -> Error {
-    let value = value.to_string_lossy();
-    Error::Usage(format!("{option}: expected {expected}, not '{value}'"))
 }
 
 impl Formats {

@@ -1,11 +1,6 @@
 //! Frames of packets, in user bits and on the serial line. The FCS of a packet is taken from the frame that the library writes for the line.
 
-use aes18::{write_line, Refusal, LONGEST_LINE_FRAME};
-
-/// Bits of the longest body that passes: 21 bytes FF hex, stuffed.
-pub const LONGEST_BODY: u64 = 201;
-/// Bits of a flag.
-pub const FLAG_BITS: u64 = 8;
+use aes18::{write_line, Body, Framing, Packet, Refusal, LONGEST_LINE_FRAME};
 
 /// A flag, as a byte of the line and as eight user bits.
 pub const FLAG: u8 = 0x7E;
@@ -53,7 +48,7 @@ pub fn on_line(packet: &[u8]) -> Result<Vec<u8>, Refusal> {
 }
 
 /// What a frame on the serial line has between its flags, without escapes: a packet and its FCS.
-pub fn unescaped(frame: &[u8]) -> Vec<u8> {
+fn unescaped(frame: &[u8]) -> Vec<u8> {
     let mut escape = false;
     let mut bytes = Vec::with_capacity(frame.len());
     for byte in frame.iter().copied().filter(|byte| *byte != FLAG) {
@@ -74,6 +69,19 @@ pub fn with_fcs(packet: &[u8]) -> Result<Vec<u8>, Refusal> {
     on_line(packet).map(|frame| unescaped(&frame))
 }
 
+/// The packet of the body that passes with the last of the bits `from..to`, and none before, read by the framing as it was before them.
+pub fn packet(
+    mut framing: Framing,
+    bytes: &[u8],
+    from: u64,
+    to: u64,
+) -> Result<Option<Packet>, Refusal> {
+    match framing.read(bytes, from, to)?.body {
+        Body::Packet(packet) => Ok(Some(packet)),
+        Body::Spoilt | Body::End => Ok(None),
+    }
+}
+
 /// Bytes as the body of a frame in user bits, with a flag before it and one behind it.
 pub fn in_bits(bytes: &[u8]) -> Bits {
     let mut frame = Bits::default();
@@ -90,23 +98,6 @@ pub fn in_bits(bytes: &[u8]) -> Bits {
     }
     frame.push_byte(FLAG);
     frame
-}
-
-/// The bytes of a body in user bits, without the zero behind each five ones; none where a zero is missing or the bits are no whole bytes.
-pub fn unstuffed(body: impl Iterator<Item = bool>) -> Option<Vec<u8>> {
-    let mut bits = Bits::default();
-    let mut ones = 0;
-    for one in body {
-        match (ones, one) {
-            (RUN, true) => return None,
-            (RUN, false) => ones = 0,
-            _ => {
-                bits.push(one);
-                ones = if one { ones + 1 } else { 0 };
-            }
-        }
-    }
-    (ones < RUN && bits.count % 8 == 0).then_some(bits.bytes)
 }
 
 #[cfg(test)]
@@ -127,11 +118,6 @@ mod tests {
         body.unwrap().to_string()
     }
 
-    /// Bits written as text, unstuffed.
-    fn unstuff(text: &str) -> Option<Vec<u8>> {
-        unstuffed(text.chars().map(|bit| bit == '1'))
-    }
-
     /// The specification's own cases.
     #[test]
     fn stuffed_bytes() {
@@ -139,28 +125,8 @@ mod tests {
         assert_eq!(body(&[0xFF]), "111110111");
         assert_eq!(body(&[0xF8]), "000111110");
         assert_eq!(body(&[0x7E]), "011111010");
-        assert_eq!(body(&[0xFF; 21]).len() as u64, LONGEST_BODY);
+        assert_eq!(body(&[0xFF; 21]).len(), 201);
         assert_eq!(in_bits(&[0x00]).bytes, [0x7E, 0x00, 0x7E]);
-    }
-
-    #[test]
-    fn stuffing_is_undone() {
-        for first in 0..=255 {
-            for second in [0x00, 0x1F, 0x55, 0x7D, 0x7E, 0xF8, 0xFF] {
-                let bytes = [first, second, first];
-                assert_eq!(unstuff(&body(&bytes)), Some(bytes.to_vec()));
-            }
-        }
-    }
-
-    #[test]
-    fn bits_that_are_no_bytes() {
-        for text in ["1", "0000000", "000000000", "1111101111"] {
-            assert_eq!(unstuff(text), None, "{text}");
-        }
-        for text in ["00011111", "000111111", "11111110"] {
-            assert_eq!(unstuff(text), None, "{text}: a zero is missing");
-        }
     }
 
     #[test]

@@ -1,4 +1,4 @@
-//! The tool `aes18`: makes user bits from a plan, tells what is in filed ones, and writes their packets for a serial line.
+//! The tool `aes18`: makes user bits from a plan, tells what is in filed ones, lists their circuits, and writes their packets for a serial line.
 
 #![forbid(unsafe_code)]
 
@@ -14,8 +14,12 @@ mod frames;
 mod input;
 mod line;
 mod output;
+mod progress;
 mod quote;
+mod scan;
+mod scratch;
 mod show;
+mod signals;
 
 use std::env;
 use std::ffi::OsString;
@@ -31,7 +35,7 @@ struct Subcommand {
     run: fn(Args) -> Result<(), Error>,
 }
 
-const SUBCOMMANDS: [Subcommand; 4] = [
+const SUBCOMMANDS: [Subcommand; 5] = [
     Subcommand {
         name: "encode",
         help: encode::HELP,
@@ -48,6 +52,11 @@ const SUBCOMMANDS: [Subcommand; 4] = [
         run: show::run,
     },
     Subcommand {
+        name: "scan",
+        help: scan::HELP,
+        run: scan::run,
+    },
+    Subcommand {
         name: "line",
         help: line::HELP,
         run: line::run,
@@ -58,15 +67,18 @@ const HELP: &str = "\
 aes18: messages in the user bits of AES3 audio (AES18)
 
 Usage:
-  aes18 encode PLAN -o BITS                     make user bits by a plan
-  aes18 decode --circuits ADDR[:EXT],.. BITS    tell what is in filed user bits
-  aes18 decode --line --circuits .. LINE        tell what is on a serial line
-  aes18 show --circuits ADDR[:EXT],.. BITS      look at filed user bits
-  aes18 line BITS -o LINE                       write packets as a serial line
-  aes18 SUBCOMMAND --help                       say more of a subcommand
+  aes18 encode PLAN -o BITS    make user bits by a plan
+  aes18 decode BITS            tell what is in filed user bits
+  aes18 decode --line LINE     tell what is on a serial line
+  aes18 show BITS              look at filed user bits
+  aes18 scan BITS              list the circuits in filed user bits
+  aes18 line BITS -o LINE      write packets as a serial line
+  aes18 help SUBCOMMAND        say more of a subcommand
 
 Options:
-  -h, --help       print this help
+  -h, --help       print this help, or behind a subcommand its own
+  -q, --quiet      behind any subcommand: say nothing but errors on the standard
+                   error
   -V, --version    print the version
 
 A file of user bits has eight of them in a byte, the first in the lowest bit,
@@ -85,24 +97,49 @@ fn main() -> ExitCode {
 
 /// Runs the subcommand that the arguments name.
 fn run(mut arguments: Vec<OsString>) -> Result<(), Error> {
-    let expected = |found: &str| {
-        Error::Usage(format!("expected encode, decode, show or line{found}")).see_help_of("aes18")
-    };
     if arguments.is_empty() {
         return Err(expected(""));
     }
     let name = arguments.remove(0);
     let name = name.to_string_lossy();
     match name.as_ref() {
-        "-h" | "--help" => return print(HELP),
-        "-V" | "--version" => return print(VERSION),
-        _ => {}
+        "-h" | "--help" => print(HELP),
+        "-V" | "--version" => print(VERSION),
+        "help" => help(&arguments),
+        _ => {
+            let subcommand = subcommand(&name)?;
+            match args::ask_for_help(&arguments) {
+                true => print(subcommand.help),
+                false => (subcommand.run)(Args::new(arguments))
+                    .map_err(|error| error.see_help_of(&format!("aes18 {name}"))),
+            }
+        }
     }
-    match SUBCOMMANDS.iter().find(|known| known.name == name) {
-        Some(subcommand) if args::ask_for_help(&arguments) => print(subcommand.help),
-        Some(subcommand) => (subcommand.run)(Args::new(arguments))
-            .map_err(|error| error.see_help_of(&format!("aes18 {name}"))),
-        None => Err(expected(&format!(", not '{name}'"))),
+}
+
+/// The subcommand of that name.
+fn subcommand(name: &str) -> Result<&'static Subcommand, Error> {
+    let known = SUBCOMMANDS.iter().find(|known| known.name == name);
+    known.ok_or_else(|| expected(&format!(", not '{name}'")))
+}
+
+/// The usage error where something else stands than a subcommand.
+fn expected(found: &str) -> Error {
+    let mut names: Vec<&str> = SUBCOMMANDS.iter().map(|known| known.name).collect();
+    names.push("help");
+    Error::Usage(format!("expected {}{found}", args::either(&names))).see_help_of("aes18")
+}
+
+/// Prints the help of the subcommand that is named, or the tool's own.
+fn help(arguments: &[OsString]) -> Result<(), Error> {
+    match arguments {
+        [] => print(HELP),
+        [name] if name == "help" || args::ask_for_help(arguments) => print(HELP),
+        [name] => print(subcommand(&name.to_string_lossy())?.help),
+        [_, other, ..] => {
+            let message = format!("'{}' is one subcommand too many", other.to_string_lossy());
+            Err(Error::Usage(message).see_help_of("aes18"))
+        }
     }
 }
 

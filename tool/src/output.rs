@@ -1,6 +1,26 @@
 //! The standard output and the standard error.
 
+use std::env;
 use std::io::{self, Write};
+use std::ops::RangeInclusive;
+use std::sync::atomic::{AtomicBool, Ordering};
+
+/// Columns that a text for people may have, and those it has where nothing says another number.
+pub const WIDTHS: RangeInclusive<u64> = 40..=1000;
+pub const WIDTH: usize = 80;
+
+/// Whether nothing but errors is said.
+static QUIET: AtomicBool = AtomicBool::new(false);
+
+/// From here on nothing but errors is said.
+pub fn be_quiet() {
+    QUIET.store(true, Ordering::Relaxed);
+}
+
+/// Whether nothing but errors is said.
+pub fn is_quiet() -> bool {
+    QUIET.load(Ordering::Relaxed)
+}
 
 /// Prints a text such as a help.
 pub fn print(text: &str) -> io::Result<()> {
@@ -9,9 +29,16 @@ pub fn print(text: &str) -> io::Result<()> {
     stdout.flush()
 }
 
-/// Says a line on the standard error; where that cannot be written there is nobody to tell.
-pub fn say(line: &str) {
+/// Says an error on the standard error; where that cannot be written there is nobody to tell.
+pub fn say_error(line: &str) {
     let _ = writeln!(io::stderr(), "{line}");
+}
+
+/// Says a note, a warning or a summary on the standard error, unless that is to be quiet.
+pub fn say(line: &str) {
+    if !is_quiet() {
+        say_error(line);
+    }
 }
 
 /// Says that the terminal of that name, which a serial line goes to or comes from, must be in raw mode.
@@ -21,10 +48,40 @@ pub fn say_raw(name: &str) {
     ));
 }
 
+/// The terminal's columns: what COLUMNS says, or else the terminal of the standard output, or else 80.
+pub fn width() -> usize {
+    let columns = env::var("COLUMNS")
+        .ok()
+        .and_then(|columns| columns.parse().ok());
+    let terminal = || terminal_size::terminal_size().map(|(width, _)| u64::from(width.0));
+    columns
+        .filter(|columns| WIDTHS.contains(columns))
+        .or_else(terminal)
+        .map_or(WIDTH, |columns| columns as usize)
+}
+
 /// A number with what it counts: `1 block`, `2 blocks`.
 pub fn count(number: u64, what: &str) -> String {
     let plural = if number == 1 { "" } else { "s" };
     format!("{number} {what}{plural}")
+}
+
+/// A text in lines of at most 80 columns, as far as its words allow; all but the first are indented.
+pub fn folded(text: &str) -> String {
+    let mut folded = String::new();
+    let mut column = 0;
+    for word in text.split(' ') {
+        let length = word.chars().count();
+        let (space, at) = match column {
+            0 => ("", 0),
+            _ if column + 1 + length > WIDTH => ("\n  ", 2),
+            _ => (" ", column + 1),
+        };
+        folded += space;
+        folded += word;
+        column = at + length;
+    }
+    folded
 }
 
 /// An output that may be closed at the other end; what is written to it then is nowhere read.
@@ -43,5 +100,28 @@ impl<W: Write> Write for Unread<W> {
             Err(error) if error.kind() == io::ErrorKind::BrokenPipe => Ok(()),
             flushed => flushed,
         }
+    }
+}
+
+#[cfg(test)]
+mod tests {
+    use super::*;
+
+    #[test]
+    fn long_texts_are_folded() {
+        assert_eq!(folded("a few words"), "a few words");
+        let word = "x".repeat(39);
+        let line = format!("{word} {word}");
+        assert_eq!(folded(&format!("{line} b")), format!("{line}\n  b"));
+        assert_eq!(
+            folded(&format!("{word} {word}x")),
+            format!("{word} {word}x")
+        );
+        assert_eq!(
+            folded(&format!("{word}x {word}x")),
+            format!("{word}x\n  {word}x")
+        );
+        let long = "x".repeat(100);
+        assert_eq!(folded(&format!("{long} b")), format!("{long}\n  b"));
     }
 }

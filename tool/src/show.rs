@@ -17,11 +17,13 @@ use aes18::Notice;
 
 use crate::args::Args;
 use crate::circuits;
-use crate::draft::{self, Draft};
+use crate::draft::Draft;
 use crate::error::Error;
 use crate::extents::{Kind, Pass, Stretch};
 use crate::formats;
 use crate::input::{Content, Input};
+use crate::output::{folded, say};
+use crate::progress::Progress;
 use layout::Part;
 use options::Options;
 use svg::Svg;
@@ -29,58 +31,81 @@ use tally::Tally;
 use terminal::Terminal;
 
 pub const HELP: &str = "\
-Shows filed user bits as a picture, with what went wrong in them.
+aes18 show: look at filed user bits as a picture, with what went wrong in them
 
-Usage: aes18 show --circuits ADDR[:EXT],.. [OPTIONS] BITS
+Usage: aes18 show [OPTIONS] BITS
 
-BITS is a file of user bits; - is the standard input.
-
-Options:
-  --circuits LIST    the circuits, one to four, in hex, such as 01,02:07; they are numbered from 0
+  BITS               the file of user bits, or - for the standard input
+  --circuits LIST    one to four circuits, such as 01,02:07: address and
+                     extension in hex, divided by commas or spaces; they are
+                     numbered from 0; without it those four with most packets
   --format FORMAT    bits: eight in a byte, the first in the lowest bit, as
                      without this option; bits-msb: the first in the highest
                      bit; iec958: a capture of ALSA's IEC958_SUBFRAME_LE words
   --channel CHANNEL  left or right, the channel of a capture; left without it
-  --block N          a row for each block of N bits, 256 to 27000; without it rows of 1000 bits
+  --block N          a row for each block of N bits, 256 to 27000; without it
+                     rows of 1000 bits
   --from BIT         show the bits from this one on
   --to BIT           show the bits before this one
-  --svg FILE         write the picture as SVG to FILE; - is the standard output
-  --width COLUMNS    columns in the terminal, 40 to 1000; without it COLUMNS, or else 100
-  --color WHEN       always, never or auto: colours on a terminal, unless NO_COLOR is set
+  --svg FILE         write the picture as SVG to FILE, or - for the standard
+                     output
+  --width COLUMNS    columns in the terminal, 40 to 1000; without it COLUMNS, or
+                     else the terminal's, or else 80
+  --color WHEN       always, never or auto: colours on a terminal, unless
+                     NO_COLOR is set
   --all              list all places that went wrong, not just the first 40
+  -q, --quiet        say nothing but errors on the standard error
+  -h, --help         print this help
 
-A row begins with its block's number, or that of its first bit. Each character behind it stands for
-as many bits as the first line says, and shows the most important of what lies in them:
+Without --circuits a first reading scans the file as aes18 scan does. The four
+circuits with most packets, copies not counted, are then listened to, of those
+with as many those heard first. Which, and which not, stands above the picture.
+The standard input, a pipe or a device is told as it comes, and needs
+--circuits.
+
+A row begins with its block's number, or that of its first bit. Each character
+behind it stands for as many bits as the first line says, and shows the most
+important of what lies in them:
   !        a spoilt body
-  ^        packets lost before the frame that begins here: how many, the line below says
-  ~        bits in no frame: voided by seven ones, too few for one, or not between two flags
+  ^        packets lost before the frame that begins here: how many, the line
+           below says
+  ~        bits in no frame: voided by seven ones, too few for one, or not
+           between two flags
   M        a malformed packet
   0 to 3   a packet of the circuit of that number
   S        a system packet
   E        a packet of a circuit that is not listed
   .        a flag
   -        closing ones
-Behind a packet's first character = shows how far it goes, or x where it is an orphan or wrong.
-Rows that show no other frame than the row before them, and look like it, are only counted.
+Behind a packet's first character = shows how far it goes, or x where it is an
+orphan or wrong. Rows that show no other frame than the row before them, and
+look like it, are only counted.
 
-Behind the picture stand the figures of each kind and the places that went wrong, with their bits: a
-body's bits are those between its flags. A circuit's figures are its frames, what became of them, the
-bytes of its whole messages and its packets lost; whole, bytes, orphan and lost stop at 4,294,967,295,
-which stands for that many or more. Bits and blocks are numbered from 0. With --from and --to the
-pass is still read from its first bit; figures and places are of what is shown. Up to seven zeros at
-the end, behind closing ones or a flag, are the last byte's spare bits and are not shown.
+Behind the picture stand the figures of each kind and the places that went
+wrong, with their bits: a body's bits are those between its flags. A circuit's
+figures are its frames, what became of them, the bytes of its whole messages and
+its packets lost; whole, bytes, orphan and lost stop at 4,294,967,295, which
+stands for that many or more. Bits and blocks are numbered from 0. With --from
+and --to the pass is still read from its first bit; figures and places are of
+what is shown. Up to seven zeros at the end, behind closing ones or a flag, are
+the last byte's spare bits and are not shown.
 
-With --svg the picture goes to FILE in place of the terminal; with - nothing but the picture is
-written. It says what a frame is when pointed at. A frame takes about 400 bytes in it, so that --from
-and --to are of use in a long pass.
+With --svg the picture goes to FILE in place of the terminal; with - nothing but
+the picture is written to the standard output. It says what a frame is when
+pointed at. A frame takes about 400 bytes in it, so that --from and --to are of
+use in a long pass. FILE appears when it is complete.
 
-Where no frame passes in the whole file, a warning on the standard error says how many do in other
-formats.
+Where no frame passes in the whole file, a warning on the standard error says
+how many do in other formats and channels. Where the standard error is a
+terminal, and no picture goes to one, a bar shows how far a long reading has
+come.
+Exit status: 0; 1 for a file that cannot be read or written; 2 for wrong usage.
 ";
 
 /// Runs the subcommand.
 pub fn run(args: Args) -> Result<(), Error> {
-    let options = Options::parse(args)?;
+    let mut options = Options::parse(args)?;
+    options.listen()?;
     match &options.svg {
         None => show_in_terminal(&options),
         Some(file) => write_svg(&options, file),
@@ -90,9 +115,11 @@ pub fn run(args: Args) -> Result<(), Error> {
 fn show_in_terminal(options: &Options) -> Result<(), Error> {
     let failed = |error: io::Error| Error::stdout(&error);
     let mut input = Input::open(&options.bits, Content::Bits(options.formats))?;
-    let out = BufWriter::new(io::stdout().lock());
+    let mut out = BufWriter::new(io::stdout().lock());
+    write_listening(&mut out, options).map_err(failed)?;
     let mut picture = Terminal::new(out, input.name().to_string(), options);
-    let tally = draw(options, &mut input, |part| {
+    let progress = Progress::beside_output(input.length());
+    let tally = draw(options, &mut input, progress, |part| {
         picture.part(part).map_err(failed)
     })?;
     picture.end().map_err(failed)?;
@@ -103,24 +130,30 @@ fn show_in_terminal(options: &Options) -> Result<(), Error> {
 
 fn write_svg(options: &Options, file: &OsStr) -> Result<(), Error> {
     let mut input = Input::open(&options.bits, Content::Bits(options.formats))?;
-    if draft::same_file(file, &options.bits) {
-        return Err(Error::Usage(
-            "--svg names the file of user bits".to_string(),
-        ));
-    }
     let draft = Draft::new(file)?;
     let name = draft.name();
     let failed = |error: io::Error| Error::file(&name, &error);
     let mut picture = Svg::new(draft, input.name(), options.words()).map_err(failed)?;
-    let tally = draw(options, &mut input, |part| {
+    let progress = Progress::alone(input.length());
+    let tally = draw(options, &mut input, progress, |part| {
         picture.part(part).map_err(failed)
     })?;
     input.end()?;
     let start = picture.end(&tally).map_err(failed)?;
     let length = picture.out.finish(&start)?;
-    match file == "-" {
-        true => Ok(()),
-        false => report_svg(options, &tally, &name, length),
+    match (file == "-", &options.listening) {
+        (true, Some(listening)) => say(&folded(&listening.to_string())),
+        (true, None) => {}
+        (false, _) => report_svg(options, &tally, &name, length)?,
+    }
+    Ok(())
+}
+
+/// Writes which circuits are listened to, where none are listed.
+fn write_listening(out: &mut impl Write, options: &Options) -> io::Result<()> {
+    match &options.listening {
+        Some(listening) => writeln!(out, "{}", folded(&listening.to_string())),
+        None => Ok(()),
     }
 }
 
@@ -129,6 +162,7 @@ fn report_svg(options: &Options, tally: &Tally, name: &str, length: u64) -> Resu
     let failed = |error: io::Error| Error::stdout(&error);
     let mut out = BufWriter::new(io::stdout().lock());
     writeln!(out, "{name}: {length} bytes").map_err(failed)?;
+    write_listening(&mut out, options).map_err(failed)?;
     report::write(&mut out, options, tally).map_err(failed)?;
     out.flush().map_err(failed)
 }
@@ -137,6 +171,7 @@ fn report_svg(options: &Options, tally: &Tally, name: &str, length: u64) -> Resu
 fn draw(
     options: &Options,
     input: &mut Input,
+    mut progress: Progress,
     mut draw: impl FnMut(&Part<'_>) -> Result<(), Error>,
 ) -> Result<Tally, Error> {
     let layout = &options.layout;
@@ -149,9 +184,17 @@ fn draw(
     let mut ended = false;
     while !ended {
         let stretches = match input.chunk()? {
-            Some(chunk) => pass.read(chunk.bytes, chunk.bits)?,
+            Some(chunk) => {
+                progress.add(chunk.read);
+                pass.read(chunk.bytes, chunk.bits)?
+            }
             None => pass.end(),
         };
+        for stretch in &stretches {
+            if let Kind::Body(notice) = &stretch.kind {
+                circuits::check_listed(&options.circuits, notice, input.name())?;
+            }
+        }
         passed |= stretches.iter().any(passes);
         for stretch in stretches.iter().filter(|stretch| layout.shows(stretch)) {
             tally.add(stretch, options.places);

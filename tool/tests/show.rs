@@ -269,7 +269,7 @@ fn every_kind() {
         wrong, whole, whole, whole, orphan, begun, held, system, elsewhere, malformed,
     ];
     file(&folder, &frames(&packets));
-    let text = printed(&folder, &["--circuits", "01", "pass"]);
+    let text = printed(&folder, &["--circuits", "01", "--width", "100", "pass"]);
     assert_eq!(text, KINDS);
     let svg = printed(&folder, &["--circuits", "01", "--svg", "-", "pass"]);
     let legend = "frames 7, copies 2, whole 1, bytes 6, orphan 1, wrong 1";
@@ -354,7 +354,7 @@ fn a_long_body() {
         .skip(2)
         .take_while(|line| !line.is_empty())
         .collect();
-    let row = "!".repeat(91);
+    let row = "!".repeat(67);
     assert_eq!(rows.len(), 3, "{text}");
     assert_eq!(rows[0], format!("       0 {row}"));
     assert_eq!(rows[1], "         ... 799 rows like this");
@@ -451,8 +451,8 @@ fn errors_write_nothing() {
     let before = files(&folder);
     let svg = ["--svg", "old.svg"];
     for (status, arguments, message) in [
-        (2, &["pass"][..], "--circuits is missing"),
-        (2, &["--circuits", "01"], "the file of user bits is missing"),
+        (2, &["--circuits", "01"][..], "expected a file of user bits"),
+        (2, &["-"], "expected --circuits ADDR[:EXT],..: only a file"),
         (
             2,
             &["--circuits", "1g", "pass"],
@@ -496,12 +496,12 @@ fn errors_write_nothing() {
         (
             2,
             &["--circuits", "01", "--svg", "./pass", "pass"],
-            "--svg names the file of user bits",
+            "expected another file for --svg than BITS",
         ),
         (
-            1,
+            2,
             &["--circuits", "FF", "pass"],
-            "--circuits: refusal 2: an address FF hex",
+            "--circuits: expected an address from 00 to FE, not FF",
         ),
         (1, &["--circuits", "01", "none"], "none: "),
         (
@@ -515,7 +515,8 @@ fn errors_write_nothing() {
             "none/",
         ),
     ] {
-        let mut command = show(&folder, &[&svg, arguments].concat());
+        let svg = &svg[..if arguments.contains(&"--svg") { 0 } else { 2 }];
+        let mut command = show(&folder, &[svg, arguments].concat());
         let output = command.output().unwrap();
         let error = String::from_utf8(output.stderr).unwrap();
         assert_eq!(output.status.code(), Some(status), "{error}");
@@ -523,6 +524,70 @@ fn errors_write_nothing() {
         assert!(output.stdout.is_empty());
         assert_eq!(files(&folder), before, "{message}");
     }
+}
+
+/// Without --circuits the four circuits with most packets are shown, and it is said which.
+#[test]
+fn circuits_that_are_found() {
+    let folder = folder("found");
+    file(&folder, &torn());
+    let listed = ["--block", "256", "--circuits", "01,02:07", "pass"];
+    let found = ["--block", "256", "pass"];
+    let heard = "listening to 01, 02:07\n";
+    let text = printed(&folder, &found);
+    assert_eq!(text, format!("{heard}{}", printed(&folder, &listed)));
+
+    let svg = ["--svg", "pass.svg"];
+    let text = printed(&folder, &[&svg[..], &found].concat());
+    assert_eq!(text.lines().nth(1), Some(heard.trim_end()), "{text}");
+    let output = show(&folder, &[&["--svg", "-"], &found[..]].concat()).output();
+    let output = output.unwrap();
+    assert_eq!(String::from_utf8(output.stderr).unwrap(), heard);
+    assert_eq!(output.stdout, fs::read(folder.join("pass.svg")).unwrap());
+}
+
+#[test]
+fn no_circuit_to_find() {
+    let folder = folder("not-found");
+    file(&folder, &frames(&[b"\xFF\xCF\x31!", b"\xFF\x80segment"]));
+    let text = printed(&folder, &["pass"]);
+    let heard = "listening to no circuit: no packet of one passes\npass: ";
+    assert!(text.starts_with(heard), "{text}");
+    assert!(
+        text.contains("\nS  system packets            1\n"),
+        "{text}"
+    );
+    assert!(!text.contains("circuit 0"), "{text}");
+}
+
+/// No line is wider than the terminal is said to be; 80 columns where nothing says how wide it is.
+#[test]
+fn widths() {
+    let folder = folder("widths");
+    file(&folder, &torn());
+    let widest = |columns: &[&str], environment: Option<&str>| {
+        let mut command = show(&folder, &[&BLOCKS[..], columns, &["pass"]].concat());
+        if let Some(columns) = environment {
+            command.env("COLUMNS", columns);
+        }
+        let text = output(&mut command);
+        let rows = text.lines().take_while(|line| !line.is_empty());
+        rows.map(str::len).max().unwrap()
+    };
+    assert_eq!(widest(&[], None), 73, "4 bits to a character");
+    assert_eq!(widest(&["--width", "73"], None), 73);
+    assert_eq!(
+        widest(&["--width", "60"], None),
+        52,
+        "6 bits to a character"
+    );
+    assert_eq!(widest(&[], Some("140")), 137, "2 bits to a character");
+    assert_eq!(widest(&["--width", "73"], Some("140")), 73);
+    assert_eq!(
+        widest(&[], Some("39")),
+        73,
+        "no width that a picture may have"
+    );
 }
 
 #[test]
@@ -560,5 +625,5 @@ fn help() {
     ] {
         assert!(text.contains(&format!("\n  {option} ")), "{option}");
     }
-    assert!(text.contains("4,294,967,295,\nwhich stands for that many or more"));
+    assert!(text.contains("4,294,967,295, which\nstands for that many or more"));
 }

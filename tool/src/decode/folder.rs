@@ -1,17 +1,20 @@
 //! A folder for the messages handed over, one file each.
 
 use std::ffi::OsStr;
-use std::fs::{self, File};
-use std::io::Write;
-use std::path::PathBuf;
+use std::fs;
+use std::io::{self, Write};
+use std::path::{Path, PathBuf};
 
 use aes18::Circuit;
+use tempfile::TempPath;
 
 use crate::error::Error;
+use crate::scratch::Scratch;
 
-/// The folder, and how many messages are in it.
+/// The folder, a folder in it for the file that is being written, and how many messages are there.
 pub struct Folder {
     path: PathBuf,
+    scratch: Scratch,
     messages: u64,
 }
 
@@ -19,10 +22,9 @@ impl Folder {
     /// Opens the folder, or makes it where it is missing. It must not hold a file with a name such as this tool gives.
     pub fn open(path: &OsStr) -> Result<Folder, Error> {
         let path = PathBuf::from(path);
-        let failed = |error| Error::file(path.display(), &error);
         if path.exists() {
-            for entry in fs::read_dir(&path).map_err(failed)? {
-                let name = entry.map_err(failed)?.file_name();
+            for entry in fs::read_dir(&path).map_err(failed(&path))? {
+                let name = entry.map_err(failed(&path))?.file_name();
                 if is_message(&name.to_string_lossy()) {
                     return Err(Error::Data(format!(
                         "{}: expected a folder without messages; {} is there",
@@ -32,9 +34,13 @@ impl Folder {
                 }
             }
         } else {
-            fs::create_dir_all(&path).map_err(failed)?;
+            fs::create_dir_all(&path).map_err(failed(&path))?;
         }
-        Ok(Folder { path, messages: 0 })
+        Ok(Folder {
+            scratch: Scratch::new(&path).map_err(failed(&path))?,
+            path,
+            messages: 0,
+        })
     }
 
     /// Writes the next message and answers the file's name: its number from 1, the address and the extension.
@@ -43,11 +49,28 @@ impl Folder {
         let circuit = circuit.to_string().replace(':', "-");
         let name = format!("{:06}-{circuit}.bin", self.messages);
         let path = self.path.join(&name);
-        File::create_new(&path)
-            .and_then(|mut file| file.write_all(message))
-            .map_err(|error| Error::file(path.display(), &error))?;
+        let mut file = self.scratch.create(&name).map_err(failed(&path))?;
+        file.write_all(message).map_err(failed(&path))?;
+        put(TempPath::from_path(self.scratch.path(&name)), &path).map_err(failed(&path))?;
         Ok(name)
     }
+}
+
+/// Puts a complete file in its place, where none may stand.
+fn put(file: TempPath, path: &Path) -> io::Result<()> {
+    let Err(failed) = file.persist_noclobber(path) else {
+        return Ok(());
+    };
+    match failed.error.kind() != io::ErrorKind::AlreadyExists && !path.exists() {
+        // A file system without hard links.
+        true => failed.path.persist(path).map_err(|failed| failed.error),
+        false => Err(failed.error),
+    }
+}
+
+/// The error of a file.
+fn failed(path: &Path) -> impl Fn(io::Error) -> Error + '_ {
+    |error| Error::file(path.display(), &error)
 }
 
 /// Whether a file's name is one that a message could get.

@@ -31,6 +31,8 @@ pub struct Told<'a> {
     pub notice: Notice,
     /// The circuits listed.
     pub circuits: &'a [Circuit],
+    /// At Elsewhere the packet's circuit.
+    pub elsewhere: Option<Circuit>,
     /// The message at Whole, the information at System.
     pub bytes: Option<&'a [u8]>,
     /// The file that the message was written to.

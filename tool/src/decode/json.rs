@@ -23,7 +23,10 @@ impl Format for Json {
             Notice::System { enable, code, .. } => {
                 write!(out, r#""System","enable":{enable},"code":{code}"#)?
             }
-            Notice::Elsewhere => write!(out, r#""Elsewhere""#)?,
+            Notice::Elsewhere => match told.elsewhere {
+                Some(circuit) => write!(out, r#""Elsewhere","circuit":"{circuit}""#)?,
+                None => write!(out, r#""Elsewhere""#)?,
+            },
             Notice::Circuit { number, loss, fate } => write!(
                 out,
                 r#""Circuit","number":{number},"circuit":"{}","loss":{loss},"fate":"{}""#,

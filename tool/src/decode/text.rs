@@ -22,7 +22,10 @@ impl Format for Text {
             Notice::System { enable, code, .. } => {
                 write!(out, "System, enable bits {enable}, code {code}")?
             }
-            Notice::Elsewhere => write!(out, "Elsewhere")?,
+            Notice::Elsewhere => match told.elsewhere {
+                Some(circuit) => write!(out, "Elsewhere, {circuit}")?,
+                None => write!(out, "Elsewhere")?,
+            },
             Notice::Circuit { number, loss, fate } => {
                 let circuit = told.circuits[number];
                 write!(out, "{circuit}, loss {loss}, {}", fate_name(fate))?

@@ -3,7 +3,7 @@
 use std::ffi::OsStr;
 
 use super::filing::Write;
-use crate::decode::progress::Progress;
+use crate::progress::Progress;
 use crate::error::Error;
 use crate::formats::{Channel, Subframe, Words};
 use crate::frames;
@@ -27,7 +27,7 @@ impl Insertion {
     pub fn open(path: &OsStr, channel: Channel) -> Result<Insertion, Error> {
         let input = Input::open(path, Content::Capture)?;
         Ok(Insertion {
-            progress: Progress::new(input.length()),
+            progress: Progress::alone(input.length()),
             input,
             channel,
             words: Words::default(),

@@ -39,7 +39,7 @@ mod tests {
     fn bits_follow_each_other() {
         let mut join = Join::default();
         assert_eq!(join.put(&[0b1010_0101, 0b011], 11), [0b1010_0101]);
-        assert_eq!(join.put(&[0b0000_0001], 1), []);
+        assert_eq!(join.put(&[0b0000_0001], 1), [0; 0]);
         assert_eq!(join.put(&[0xF0, 0x0F], 12), [0b0000_1011, 0xFF]);
         assert_eq!(join.put(&[0x12, 0x34], 16), [0x12, 0x34]);
         assert_eq!(join.end(), None);

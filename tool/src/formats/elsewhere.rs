@@ -3,10 +3,10 @@
 use std::ffi::OsStr;
 use std::fs;
 
-use aes18::{Circuit, Notice, Receiver, RECEIVER_STORE};
+use aes18::{Body, Framing, Refusal};
 
 use super::Formats;
-use crate::decode::progress::Progress;
+use crate::progress::Progress;
 use crate::error::Error;
 use crate::input::{Chunk, Content, Input};
 use crate::output::{count, say};
@@ -44,49 +44,28 @@ fn elsewhere(path: &OsStr, used: Formats) -> Result<Vec<(Formats, u64)>, Error> 
 /// How many frames pass in a file.
 fn frames(path: &OsStr, formats: Formats) -> Result<u64, Error> {
     let mut input = Input::open(path, Content::Bits(formats))?;
-    let mut progress = Progress::new(input.length());
-    let mut passing = Passing::new()?;
+    let mut progress = Progress::alone(input.length());
+    let mut framing = Framing::new();
+    let mut frames = 0;
     while let Some(chunk) = input.chunk()? {
-        passing.read(&chunk)?;
+        let passed = passing(&mut framing, &chunk);
+        frames += passed.map_err(|refusal| Error::Data(refusal.to_string()))?;
         progress.add(chunk.read);
     }
-    Ok(passing.frames)
+    Ok(frames)
 }
 
-/// A receiver that counts the frames that pass. It lists some circuit, since frames pass whatever circuit is listed.
-struct Passing {
-    receiver: Receiver,
-    store: Vec<u8>,
-    frames: u64,
-}
-
-impl Passing {
-    fn new() -> Result<Passing, Error> {
-        let any = Circuit {
-            address: 0,
-            extension: None,
-        };
-        let receiver = Receiver::list(&[any]);
-        Ok(Passing {
-            receiver: receiver.map_err(|refusal| Error::Data(refusal.to_string()))?,
-            store: vec![0; RECEIVER_STORE],
-            frames: 0,
-        })
-    }
-
-    fn read(&mut self, chunk: &Chunk<'_>) -> Result<(), Error> {
-        let mut from = 0;
-        loop {
-            let read = self
-                .receiver
-                .read(&mut self.store, chunk.bytes, from, chunk.bits)
-                .map_err(|refusal| Error::Data(refusal.to_string()))?;
-            from += read.bits;
-            match read.notice {
-                Notice::End => return Ok(()),
-                Notice::Spoilt => {}
-                _ => self.frames += 1,
-            }
+/// How many frames pass in the next bits.
+fn passing(framing: &mut Framing, chunk: &Chunk<'_>) -> Result<u64, Refusal> {
+    let mut frames = 0;
+    let mut from = 0;
+    loop {
+        let read = framing.read(chunk.bytes, from, chunk.bits)?;
+        from += read.bits;
+        match read.body {
+            Body::End => return Ok(frames),
+            Body::Spoilt => {}
+            Body::Packet(_) => frames += 1,
         }
     }
 }

@@ -1,7 +1,7 @@
 //! The command line of `aes18 show`.
 
 use std::env;
-use std::ffi::{OsStr, OsString};
+use std::ffi::OsString;
 use std::io::{self, IsTerminal};
 use std::ops::RangeInclusive;
 
@@ -14,14 +14,19 @@ use crate::args::{self, Arg, Args};
 use crate::circuits;
 use crate::error::Error;
 use crate::formats::{Choice, Formats};
+use crate::output::{self, WIDTHS};
+use crate::scan::Listening;
 
 /// Bits of a row where no block is given.
 const ROW: u64 = 1000;
 /// Bits that a block may have.
 const BLOCK: RangeInclusive<u64> = 256..=27000;
-/// Columns that a picture may have, and those it has where nothing says another number.
-const WIDTHS: RangeInclusive<u64> = 40..=1000;
-const WIDTH: u64 = 100;
+/// When colours are wanted; none stands for a terminal.
+const COLOURS: [(&str, Option<bool>); 3] = [
+    ("always", Some(true)),
+    ("never", Some(false)),
+    ("auto", None),
+];
 /// The places that went wrong that are listed without `--all`.
 const PLACES: usize = 40;
 
@@ -30,6 +35,8 @@ pub struct Options {
     pub bits: OsString,
     pub formats: Formats,
     pub circuits: Vec<Circuit>,
+    /// The circuits found in the file, where none are listed.
+    pub listening: Option<Listening>,
     pub layout: Layout,
     pub svg: Option<OsString>,
     pub paint: Paint,
@@ -62,6 +69,16 @@ impl Options {
         }
     }
 
+    /// Finds the circuits to listen to, where none are listed.
+    pub fn listen(&mut self) -> Result<(), Error> {
+        if self.circuits.is_empty() {
+            let listening = Listening::in_bits(&self.bits, self.formats)?;
+            self.circuits = listening.circuits();
+            self.listening = Some(listening);
+        }
+        Ok(())
+    }
+
     pub fn parse(mut arguments: Args) -> Result<Options, Error> {
         let mut given = Given::default();
         while let Some(argument) = arguments.next()? {
@@ -82,12 +99,12 @@ impl Given {
                 let list = arguments.value("a list of circuits")?;
                 self.circuits = Some(circuits::option(&list)?);
             }
-            "--block" => self.block = Some(number(option, arguments, BLOCK)?),
-            "--from" => self.from = Some(number(option, arguments, 0..=u64::MAX)?),
-            "--to" => self.to = Some(number(option, arguments, 0..=u64::MAX)?),
+            "--block" => self.block = Some(arguments.number(BLOCK)?),
+            "--from" => self.from = Some(arguments.number(0..=u64::MAX)?),
+            "--to" => self.to = Some(arguments.number(0..=u64::MAX)?),
             "--svg" => self.svg = Some(arguments.value("a file")?),
-            "--color" => self.colour = colour(&arguments.value("always, never or auto")?)?,
-            "--width" => self.width = Some(number(option, arguments, WIDTHS)?),
+            "--color" => self.colour = arguments.choice(&COLOURS)?,
+            "--width" => self.width = Some(arguments.number(WIDTHS)?),
             "--all" => self.all = true,
             _ => return Err(args::unknown_option(option)),
         }
@@ -95,7 +112,6 @@ impl Given {
     }
 
     fn options(self) -> Result<Options, Error> {
-        let missing = |what: &str| Error::Usage(format!("{what} is missing"));
         let layout = Layout {
             row: self.block.unwrap_or(ROW),
             blocks: self.block.is_some(),
@@ -105,48 +121,21 @@ impl Given {
         if layout.from >= layout.to {
             return Err(Error::Usage("--from has to be below --to".to_string()));
         }
+        let bits = args::needed(self.bits, "a file of user bits")?;
+        if let Some(svg) = &self.svg {
+            args::not_the_same(("--svg", svg), ("BITS", &bits))?;
+        }
         Ok(Options {
-            bits: self.bits.ok_or_else(|| missing("the file of user bits"))?,
+            bits,
             formats: self.choice.finish()?,
-            circuits: self.circuits.ok_or_else(|| missing("--circuits"))?,
+            circuits: self.circuits.unwrap_or_default(),
+            listening: None,
             layout,
             svg: self.svg,
             paint: Paint(self.colour.unwrap_or_else(auto_colour)),
-            width: self.width.unwrap_or_else(auto_width) as usize,
+            width: self.width.map_or_else(auto_width, |width| width as usize),
             places: if self.all { usize::MAX } else { PLACES },
         })
-    }
-}
-
-/// The number behind an option.
-fn number(option: &str, arguments: &mut Args, range: RangeInclusive<u64>) -> Result<u64, Error> {
-    let (least, most) = (range.start(), range.end());
-    let expected = match *most {
-        u64::MAX => "the number of a bit".to_string(),
-        _ => format!("a number from {least} to {most}"),
-    };
-    let value = arguments.value(&expected)?;
-    let number = value.to_str().and_then(|text| text.parse().ok());
-    number
-        .filter(|number| range.contains(number))
-        .ok_or_else(|| {
-            let value = value.to_string_lossy();
-            Error::Usage(format!("{option}: expected {expected}, not '{value}'"))
-        })
-}
-
-/// Whether colours are wanted, if the value says so.
-fn colour(value: &OsStr) -> Result<Option<bool>, Error> {
-    match value.to_str() {
-        Some("always") => Ok(Some(true)),
-        Some("never") => Ok(Some(false)),
-        Some("auto") => Ok(None),
-        _ => {
-            let value = value.to_string_lossy();
-            Err(Error::Usage(format!(
-                "--color: expected always, never or auto, not '{value}'"
-            )))
-        }
     }
 }
 
@@ -156,12 +145,8 @@ fn auto_colour() -> bool {
     !unwanted && io::stdout().is_terminal()
 }
 
-/// The terminal's width, where COLUMNS tells it.
-fn auto_width() -> u64 {
-    let columns = env::var("COLUMNS")
-        .ok()
-        .and_then(|columns| columns.parse().ok());
-    columns
-        .filter(|columns| WIDTHS.contains(columns))
-        .unwrap_or(WIDTH)
+/// The terminal's width, as far as a picture may have it.
+fn auto_width() -> usize {
+    let (least, most) = (*WIDTHS.start() as usize, *WIDTHS.end() as usize);
+    output::width().clamp(least, most)
 }

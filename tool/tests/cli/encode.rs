@@ -212,6 +212,7 @@ fn blocks_that_are_badly_written() {
 
 #[test]
 fn refused_calls() {
+    let system_address = "expected an address from 00 to FE, not FF: FF is that of system packets";
     let pending = "refusal 10: an earlier message there still has a copy to place";
     let bits = "refusal 11: N outside 256 to 27,000 or U outside 256 to N";
     let system = "refusal 13: enable bits above 15, code above 8 or information above 15 bytes";
@@ -221,10 +222,10 @@ fn refused_calls() {
             (
                 "circuits 1 2 3 4 5",
                 1,
-                "refusal 1: length not 3, 6, 9 or 12",
+                "expected one to four circuits, not 5",
             ),
-            ("\n\ncircuits FF", 3, "refusal 2: an address FF hex"),
-            ("circuits 1 01", 1, "refusal 4: two circuits alike"),
+            ("\n\ncircuits FF", 3, system_address),
+            ("circuits 1 01", 1, "01 is listed twice"),
             (
                 "circuits 1\noffer 1 0 0 -",
                 2,

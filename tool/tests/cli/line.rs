@@ -184,7 +184,7 @@ fn packets_of_any_kind() {
     assert_eq!(folder.read("line"), line);
     let bits = folder.run(&["decode", ALL, "bits"]).told();
     let line = folder.run(&["decode", "--line", ALL, "line"]).told();
-    assert!(line.contains(": Malformed\n") && line.contains(": Elsewhere\n"));
+    assert!(line.contains(": Malformed\n") && line.contains(": Elsewhere, FD\n"));
     assert_eq!(without_places(&line), without_places(&bits));
 }
 

@@ -11,6 +11,8 @@ mod json;
 mod line;
 mod long;
 mod runs;
+mod scan;
+mod signals;
 #[cfg(target_os = "linux")]
 mod terminal;
 mod usage;
