@@ -117,7 +117,7 @@ fn show_in_terminal(options: &Options) -> Result<(), Error> {
     let mut input = Input::open(&options.bits, Content::Bits(options.formats))?;
     let mut out = BufWriter::new(io::stdout().lock());
     write_listening(&mut out, options).map_err(failed)?;
-    let mut picture = Terminal::new(out, input.name().to_string(), options);
+    let mut picture = Terminal::new(out, &input, options);
     let progress = Progress::beside_output(input.length());
     let tally = draw(options, &mut input, progress, |part| {
         picture.part(part).map_err(failed)

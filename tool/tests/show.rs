@@ -590,6 +590,29 @@ fn widths() {
     );
 }
 
+/// The label of a row far in a long file has room too.
+#[test]
+fn wide_labels() {
+    let folder = folder("labels");
+    let bytes = 100_000_000 / 8 + 1;
+    File::create(folder.join("pass"))
+        .and_then(|file| file.set_len(bytes))
+        .unwrap();
+    let range = ["--circuits", "01", "--from", "99999000", "--width", "49"];
+    let text = printed(&folder, &[&range[..], &["pass"]].concat());
+    let rows: Vec<&str> = text.lines().skip(1).take(3).collect();
+    let row = "~".repeat(39);
+    let row = &row[..1000_usize.div_ceil(1000_usize.div_ceil(39))];
+    assert_eq!(
+        rows,
+        [
+            "      bit".to_string(),
+            format!(" 99999000 {row}"),
+            "100000000 ~".to_string()
+        ]
+    );
+}
+
 #[test]
 fn an_empty_file() {
     let folder = folder("empty");

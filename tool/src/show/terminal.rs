@@ -10,6 +10,7 @@ use super::layout::{Layout, Part};
 use super::options::Options;
 use super::paint::Paint;
 use crate::extents::Kind;
+use crate::input::Input;
 
 /// The columns that a row's label takes at least, and the space behind it.
 const LABEL: usize = 8;
@@ -44,6 +45,8 @@ pub struct Terminal<'a, W> {
     name: String,
     layout: &'a Layout,
     paint: Paint,
+    /// The columns of a row's label.
+    label: usize,
     /// Bits of a character.
     bits: u64,
     /// The number of the row in work.
@@ -59,16 +62,20 @@ pub struct Terminal<'a, W> {
 }
 
 impl<'a, W: Write> Terminal<'a, W> {
-    /// A picture of the file of that name, with nothing drawn yet.
-    pub fn new(out: W, name: String, options: &'a Options) -> Terminal<'a, W> {
+    /// A picture of an input of which nothing is read yet, with nothing drawn. Where its length is known, there is room for the label of its last row.
+    pub fn new(out: W, input: &Input, options: &'a Options) -> Terminal<'a, W> {
         let layout = &options.layout;
-        let bits = layout.row.div_ceil((options.width - LABEL - SPACE) as u64);
+        let end = input.length().map_or(0, |bytes| layout.to.min(8 * bytes));
+        let last = layout.label(end / layout.row).to_string();
+        let label = LABEL.max(last.len());
+        let bits = layout.row.div_ceil((options.width - label - SPACE) as u64);
         let cells = layout.row.div_ceil(bits) as usize;
         Terminal {
             out,
-            name,
+            name: input.name().to_string(),
             layout,
             paint: options.paint,
+            label,
             bits,
             row: None,
             cells: vec![BLANK; cells],
@@ -81,7 +88,7 @@ impl<'a, W: Write> Terminal<'a, W> {
 
     /// Writes what stands above the rows.
     fn head(&mut self) -> io::Result<()> {
-        let (rows, label) = match self.layout.blocks {
+        let (rows, unit) = match self.layout.blocks {
             true => ("blocks", "block"),
             false => ("rows", "bit"),
         };
@@ -90,7 +97,7 @@ impl<'a, W: Write> Terminal<'a, W> {
             self.out,
             "{name}: {rows} of {row} bits, {bits} to a character"
         )?;
-        writeln!(self.out, "{label:>LABEL$}")
+        writeln!(self.out, "{unit:>0$}", self.label)
     }
 
     /// Draws a part of the row in work, or of a later row.
@@ -159,7 +166,7 @@ impl<'a, W: Write> Terminal<'a, W> {
         match mem::take(&mut self.alike) {
             0 => Ok(()),
             1 => self.line(row - 1),
-            rows => writeln!(self.out, "{:LABEL$} ... {rows} rows like this", ""),
+            rows => writeln!(self.out, "{:1$} ... {rows} rows like this", "", self.label),
         }
     }
 
@@ -183,7 +190,7 @@ impl<'a, W: Write> Terminal<'a, W> {
     }
 
     fn label(&self, row: u64) -> String {
-        format!("{:>LABEL$}", self.layout.label(row))
+        format!("{:>1$}", self.layout.label(row), self.label)
     }
 
     /// Writes the notes of the row of that number: under each mark what is lost.

@@ -1,10 +1,11 @@
-//! A serial line to a terminal and from one. `tests/terminal` runs these where a terminal can be opened, and says so where none can.
+//! A serial line to a terminal and from one, and the width of a terminal. `tests/terminal` runs these where a terminal can be opened, and says so where none can.
 
 use std::fs::File;
 use std::io::{BufRead, BufReader, IsTerminal};
-use std::process::Stdio;
+use std::process::{Command, Stdio};
 
 use super::line::folder;
+use super::runs::Folder;
 
 /// Each opening of this device is a terminal of its own.
 const TERMINAL: &str = "/dev/ptmx";
@@ -84,4 +85,82 @@ fn user_bits_to_a_terminal() {
     assert!(output.status.success());
     let said = String::from_utf8(output.stderr).unwrap();
     assert!(!said.contains("note:"), "{said}");
+}
+
+/// What is seen of a command of the shell in a terminal with so many columns.
+fn seen(folder: &Folder, columns: u32, command: &str) -> String {
+    let command = format!("stty cols {columns} rows 30; {command}");
+    let output = Command::new("script")
+        .args(["-qec", &command, "/dev/null"])
+        .current_dir(folder.path("."))
+        .env("SHELL", "/bin/sh")
+        .env_remove("COLUMNS")
+        .stdin(Stdio::null())
+        .output()
+        .expect("script");
+    assert!(output.status.success());
+    String::from_utf8(output.stdout)
+        .unwrap()
+        .replace("\r\n", "\n")
+}
+
+/// The picture is as wide as the terminal, as far as a picture may be.
+#[test]
+#[ignore = "needs a terminal: tests/terminal"]
+fn the_width_of_a_terminal() {
+    let folder = folder("terminal-width");
+    let show = ["show", "--circuits=01", "--color=never", "bits"];
+    let program = env!("CARGO_BIN_EXE_aes18");
+    let command = format!("'{program}' {}", show.join(" "));
+    for (columns, width) in [(20, 40), (60, 60), (80, 80), (133, 133)] {
+        let expected = folder.run(&[&show[..], &["--width", &width.to_string()]].concat());
+        assert_eq!(seen(&folder, columns, &command), expected.told());
+        let rows = seen(&folder, columns, &command);
+        let rows = rows.lines().skip(1).take_while(|line| !line.is_empty());
+        assert!(rows.map(str::len).max().unwrap() <= width as usize);
+    }
+    let expected = folder.run(&[&show[..], &["--width=70"]].concat()).told();
+    assert_eq!(
+        seen(&folder, 90, &format!("COLUMNS=70 {command}")),
+        expected
+    );
+    assert_eq!(
+        seen(&folder, 90, &format!("{command} --width=70")),
+        expected
+    );
+}
+
+/// Every reading that takes a while shows how far it has come, unless the picture or the notices go to the terminal, and unless it is to be quiet.
+#[test]
+#[ignore = "needs a terminal: tests/terminal"]
+fn a_bar() {
+    let folder = folder("terminal-bar");
+    let program = env!("CARGO_BIN_EXE_aes18");
+    let shown = |arguments: &str| {
+        let slowly = "(cat bits; sleep 0.7; cat bits)";
+        let seen = seen(&folder, 80, &format!("{slowly} | '{program}' {arguments}"));
+        let erased = seen.matches("\r\x1b[K").count();
+        assert_eq!(
+            seen.contains("\r\x1b[K0.0 MB\r\x1b[K"),
+            erased == 2,
+            "{seen:?}"
+        );
+        erased == 2
+    };
+    for (arguments, bar) in [
+        ("scan -", true),
+        ("scan - >out", true),
+        ("scan - --quiet", false),
+        ("line - -o line", true),
+        ("line - -o line -q", false),
+        ("show --circuits=01 -", false),
+        ("show --circuits=01 - >out", true),
+        ("show --circuits=01 - --svg=out.svg", true),
+        ("show --circuits=01 - --svg=out.svg -q", false),
+        ("decode --circuits=01 -", false),
+        ("decode --circuits=01 - >out", true),
+        ("decode --circuits=01 - -q >out", false),
+    ] {
+        assert_eq!(shown(arguments), bar, "{arguments}");
+    }
 }
