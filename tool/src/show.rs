@@ -59,9 +59,10 @@ Usage: aes18 show [OPTIONS] BITS
 
 Without --circuits a first reading scans the file as aes18 scan does. The four
 circuits with most packets, copies not counted, are then listened to, of those
-with as many those heard first. Which, and which not, stands above the picture.
-The standard input, a pipe or a device is told as it comes, and needs
---circuits.
+with as many those heard first. Which, and which not, stands above the picture,
+or behind the name of FILE. Where no packet of a circuit passes there is none in
+the figures. The standard input, a pipe or a device is told as it comes, and
+needs --circuits.
 
 A row begins with its block's number, or that of its first bit. Each character
 behind it stands for as many bits as the first line says, and shows the most

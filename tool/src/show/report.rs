@@ -21,8 +21,8 @@ pub fn write(out: &mut impl Write, options: &Options, tally: &Tally) -> io::Resu
 
 /// The listed circuits with the figures of their packets.
 fn circuits(out: &mut impl Write, paint: Paint, words: Words<'_>, tally: &Tally) -> io::Result<()> {
-    let columns = "  frames  copies   begun    held   whole       bytes  orphan   wrong    lost";
-    writeln!(out, "\n{:22}{columns}", "")?;
+    let columns = " frames copies begun  held whole   bytes orphan wrong  lost";
+    writeln!(out, "\n{:20}{columns}", "")?;
     for (number, (packets, figures)) in (0..words.circuits.len()).zip(tally.circuits()) {
         let ink = Ink::Circuit { number, used: true };
         entry(out, paint, ink, &words.circuit(number))?;
@@ -47,7 +47,7 @@ fn row(packets: &Packets, figures: Figures) -> String {
         orphaned,
     } = figures;
     format!(
-        " {frames:7} {copies:7} {begun:7} {held:7} {messages:7} {bytes:11} {orphaned:7} {wrong:7} {lost:7}"
+        " {frames:6} {copies:6} {begun:5} {held:5} {messages:5} {bytes:7} {orphaned:6} {wrong:5} {lost:5}"
     )
 }
 
@@ -63,7 +63,7 @@ fn others(out: &mut impl Write, paint: Paint, tally: &Tally) -> io::Result<()> {
         (Ink::Idle, "closing ones", tally.idle),
     ] {
         entry(out, paint, ink, name)?;
-        writeln!(out, "{figure:>8}")?;
+        writeln!(out, "{figure:>7}")?;
     }
     Ok(())
 }
@@ -71,7 +71,7 @@ fn others(out: &mut impl Write, paint: Paint, tally: &Tally) -> io::Result<()> {
 /// A symbol of the picture and its meaning.
 fn entry(out: &mut impl Write, paint: Paint, ink: Ink, name: &str) -> io::Result<()> {
     let symbol = paint.text(ink, &ink.symbol().to_string());
-    write!(out, "{symbol}  {name:19}")
+    write!(out, "{symbol}  {name:17}")
 }
 
 /// The characters that stand for no kind.
@@ -122,7 +122,7 @@ mod tests {
         };
         assert_eq!(
             row(&packets, figures),
-            "       1       2       3       4 4294967295  4294967294 4294967292       5 4294967293"
+            "      1      2     3     4 4294967295 4294967294 4294967292     5 4294967293"
         );
     }
 }
