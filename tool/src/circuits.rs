@@ -112,6 +112,8 @@ fn hex_byte(word: &str) -> Option<u8> {
 
 #[cfg(test)]
 mod tests {
+    use aes18::Fate;
+
     use super::*;
 
     fn circuit(address: u8, extension: Option<u8>) -> Circuit {
@@ -171,6 +173,24 @@ mod tests {
         for text in ["1 1:0", "1:0 1:1", "0 fe"] {
             assert!(Receiver::list(&parse_list(text).unwrap()).is_ok(), "{text}");
         }
+    }
+
+    /// Only where none are listed a notice of a circuit is not expected.
+    #[test]
+    fn a_circuit_where_there_was_none() {
+        let fate = Fate::Copy;
+        let notice = Notice::Circuit {
+            number: 0,
+            loss: 0,
+            fate,
+        };
+        let listed = [circuit(0x01, None)];
+        assert!(check_listed(&listed, &notice, "bits").is_ok());
+        assert!(check_listed(&[], &Notice::Spoilt, "bits").is_ok());
+        let Err(Error::Data(message)) = check_listed(&[], &notice, "bits") else {
+            panic!("a notice of no circuit is taken");
+        };
+        assert_eq!(message, "bits: changed while it was read");
     }
 
     #[test]

@@ -18,7 +18,7 @@ use crate::error::Error;
 use crate::formats::{self, Choice};
 use crate::frames;
 use crate::input::{Chunk, Content, Input};
-use crate::output::{folded, say, say_raw, Unread};
+use crate::output::{say_raw, Unread};
 use crate::progress::Progress;
 use crate::scan::Listening;
 use counts::Counts;
@@ -162,13 +162,13 @@ pub fn run(args: Args) -> Result<(), Error> {
         counts: Counts::new(request.unit(), &circuits),
         circuits,
         folder,
-        json: request.json,
         format: if request.json { &Json } else { &Text },
         passed: false,
         out: BufWriter::new(stdout),
     };
     if let Some(listening) = listening {
-        decoder.say(&listening)?;
+        let told = decoder.format.listening(&mut decoder.out, &listening);
+        told.map_err(|error| Error::stdout(&error))?;
     }
     let mut progress = Progress::beside_output(input.length());
     while let Some(chunk) = input.chunk()? {
@@ -249,7 +249,6 @@ struct Decoder {
     circuits: Vec<Circuit>,
     counts: Counts,
     folder: Option<Folder>,
-    json: bool,
     format: &'static dyn Format,
     /// Whether a frame has passed.
     passed: bool,
@@ -325,18 +324,6 @@ impl Decoder {
             "{}: byte {}: the frame before this byte has a right FCS, and aes18 put it wrongly into user bits: an error of aes18 itself",
             self.name, self.counts.read
         ))
-    }
-
-    /// Says which circuits are listened to: to people, or to programs in an object before the first notice.
-    fn say(&mut self, listening: &Listening) -> Result<(), Error> {
-        match self.json {
-            true => writeln!(self.out, "{}", listening.json()),
-            false => {
-                say(&folded(&listening.to_string()));
-                Ok(())
-            }
-        }
-        .map_err(|error| Error::stdout(&error))
     }
 
     /// Counts a notice, files its message and tells it. At Elsewhere the packet says which circuit it is of.

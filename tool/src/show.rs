@@ -191,13 +191,11 @@ fn draw(
             }
             None => pass.end(),
         };
-        for stretch in &stretches {
+        passed |= stretches.iter().any(passes);
+        for stretch in stretches.iter().filter(|stretch| layout.shows(stretch)) {
             if let Kind::Body(notice) = &stretch.kind {
                 circuits::check_listed(&options.circuits, notice, input.name())?;
             }
-        }
-        passed |= stretches.iter().any(passes);
-        for stretch in stretches.iter().filter(|stretch| layout.shows(stretch)) {
             tally.add(stretch, options.places);
             layout.parts(stretch).try_for_each(|part| draw(&part))?;
         }

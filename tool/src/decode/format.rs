@@ -6,6 +6,7 @@ use std::io::{self, Write};
 use aes18::{Circuit, Fate, Notice};
 
 use super::counts::Counts;
+use crate::scan::Listening;
 
 /// What places are counted in: the bits of user bits, the bytes of a serial line.
 #[derive(Clone, Copy, Debug, PartialEq, Eq)]
@@ -41,6 +42,9 @@ pub struct Told<'a> {
 
 /// A form of telling.
 pub trait Format {
+    /// Tells which circuits are listened to, before the first notice, where none are listed.
+    fn listening(&self, out: &mut dyn Write, listening: &Listening) -> io::Result<()>;
+
     /// Tells a notice.
     fn notice(&self, out: &mut dyn Write, told: &Told<'_>) -> io::Result<()>;
 

@@ -9,11 +9,16 @@ use super::counts::{Counts, Packets};
 use super::format::{fate_name, Format, Told, Unit};
 use super::line::Rest;
 use crate::quote::{as_text, Hex};
+use crate::scan::Listening;
 
 /// An object for each notice, then one with the counts.
 pub struct Json;
 
 impl Format for Json {
+    fn listening(&self, out: &mut dyn Write, listening: &Listening) -> io::Result<()> {
+        writeln!(out, "{}", listening.json())
+    }
+
     fn notice(&self, out: &mut dyn Write, told: &Told<'_>) -> io::Result<()> {
         write!(out, r#"{{"{}":{},"notice":"#, told.unit, told.place)?;
         match told.notice {

@@ -7,12 +7,20 @@ use aes18::{Figures, Notice};
 use super::counts::{Counts, Packets};
 use super::format::{fate_name, Format, Told, Unit};
 use super::line::Rest;
+use crate::output::{folded, say};
 use crate::quote::Quoted;
+use crate::scan::Listening;
 
 /// A line for each notice, then a table.
 pub struct Text;
 
 impl Format for Text {
+    /// It is said beside the notices.
+    fn listening(&self, _: &mut dyn Write, listening: &Listening) -> io::Result<()> {
+        say(&folded(&listening.to_string()));
+        Ok(())
+    }
+
     fn notice(&self, out: &mut dyn Write, told: &Told<'_>) -> io::Result<()> {
         write!(out, "{} {}: ", told.unit, told.place)?;
         match told.notice {

@@ -72,7 +72,9 @@ impl Survey {
                 Notice::System { .. } => self.system += 1,
                 Notice::Elsewhere | Notice::Circuit { .. } => {
                     let packet = frames::packet(framing, bytes, from, behind);
-                    self.hear(packet.map_err(refused)?).map_err(refused)?;
+                    if let Some(packet) = packet.map_err(refused)? {
+                        self.hear(packet).map_err(refused)?;
+                    }
                 }
             }
             from = behind;
@@ -80,10 +82,8 @@ impl Survey {
     }
 
     /// Notes a packet of some circuit whose frame ends with the last bit read.
-    fn hear(&mut self, packet: Option<Packet>) -> Result<(), Refusal> {
-        let Some((packet, circuit)) =
-            packet.zip(packet.and_then(|packet| circuits::of_packet(&packet)))
-        else {
+    fn hear(&mut self, packet: Packet) -> Result<(), Refusal> {
+        let Some(circuit) = circuits::of_packet(&packet) else {
             return Ok(());
         };
         match self.places.get(&circuit) {

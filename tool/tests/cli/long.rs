@@ -44,7 +44,7 @@ fn repeat_in(folder: &Folder, bytes: usize, options: &[&str]) -> usize {
 }
 
 /// Runs the program with little memory; answers the last part of its standard output, and the standard error.
-fn run(folder: &Folder, arguments: &[&str]) -> (Vec<u8>, String) {
+pub fn run(folder: &Folder, arguments: &[&str]) -> (Vec<u8>, String) {
     let mut command = folder.command(arguments);
     command.stdout(Stdio::piped()).stderr(Stdio::piped());
     let mut child = command.spawn().unwrap();

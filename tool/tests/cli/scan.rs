@@ -127,7 +127,7 @@ fn damage_and_nothing() {
     assert_eq!(parse(told.trim_end()), parse(object));
 }
 
-/// Every circuit there can be is heard.
+/// Every circuit there can be is heard, with little memory.
 #[test]
 fn all_circuits() {
     let mut packets: Vec<Vec<u8>> = Vec::new();
@@ -141,6 +141,8 @@ fn all_circuits() {
     assert!(told.contains(", circuits 65535; System 0"));
     let heard: Vec<&str> = told.lines().skip(1).take(3).map(|row| &row[..5]).collect();
     assert_eq!(heard, ["00   ", "00:00", "00:01"], "by who was heard first");
+    #[cfg(target_os = "linux")]
+    super::long::run(&folder, &["scan", "bits"]);
     let ran = folder.run(&["decode", "bits"]);
     let (first, rest) = ran.err.split_once('\n').unwrap();
     assert_eq!(

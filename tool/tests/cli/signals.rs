@@ -88,7 +88,7 @@ fn a_long_plan() {
     let folder = Folder::new("signals-encode");
     folder.write(
         "plan",
-        format!("circuits 01\n{}", "block 27000 27000\n".repeat(200_000)),
+        format!("circuits 01\n{}", "block 27000 27000\n".repeat(20_000)),
     );
     let (mut child, _stdin) = start(folder.command(&["encode", "plan", "-o", "bits"]), b"");
     wait_for_draft(&folder.path("."));
