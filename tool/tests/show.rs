@@ -598,7 +598,7 @@ fn wide_labels() {
         .and_then(|file| file.set_len(bytes))
         .unwrap();
     let range = ["--circuits", "01", "--from", "99999000", "--width", "49"];
-    let text = printed(&folder, &[&range[..], &["pass"]].concat());
+    let text = printed_without_frames(&folder, &[&range[..], &["pass"]].concat());
     let rows: Vec<&str> = text.lines().skip(1).take(3).collect();
     let row = "~".repeat(39);
     assert_eq!(

@@ -3,12 +3,12 @@
 use std::ffi::OsStr;
 
 use super::filing::Write;
-use crate::progress::Progress;
 use crate::error::Error;
 use crate::formats::{Channel, Subframe, Words};
 use crate::frames;
 use crate::input::{Content, Input};
 use crate::output::count;
+use crate::progress::Progress;
 
 /// The capture, read as far as bits are put into it.
 pub struct Insertion {

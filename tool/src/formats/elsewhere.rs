@@ -6,10 +6,10 @@ use std::fs;
 use aes18::{Body, Framing, Refusal};
 
 use super::Formats;
-use crate::progress::Progress;
 use crate::error::Error;
 use crate::input::{Chunk, Content, Input};
 use crate::output::{count, say};
+use crate::progress::Progress;
 
 /// Says that no frame was found in the input read in these formats and, where it is a file that can be read again, which others have frames.
 pub fn warn_of_no_frame(path: &OsStr, input: &Input, used: Formats) -> Result<(), Error> {

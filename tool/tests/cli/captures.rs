@@ -162,6 +162,41 @@ fn the_same_picture_and_line() {
     }
 }
 
+/// `scan` lists the circuits of each channel, and where none are listed `decode` and `show` listen to them.
+#[test]
+fn circuits_of_each_channel() {
+    let folder = folder("channel-circuits");
+    encode(&folder, &LEFT, "plan", "left");
+    let into = [&RIGHT[..], &["--into=left"]].concat();
+    encode(&folder, &into, "other", "both");
+    let circuits = |told: String| -> Vec<String> {
+        let rows = told
+            .lines()
+            .filter(|line| line.as_bytes().get(2) == Some(&b' '));
+        rows.map(|row| row[..2].to_string()).collect()
+    };
+    for (options, found, said) in [
+        (&LEFT[..], vec!["7E", "01"], "listening to 7E, 01\n"),
+        (&RIGHT, vec!["05"], "listening to 05\n"),
+    ] {
+        let told = folder.run(&[&["scan", "both"], options].concat()).told();
+        assert!(told.contains("\nbits read 1805, circuits "), "{told}");
+        assert_eq!(circuits(told), found);
+        let ran = folder.run(&[&["decode", "both"], options].concat());
+        assert_eq!((ran.status, ran.err.as_str()), (0, said));
+        let told = String::from_utf8(ran.out).unwrap();
+        assert_eq!(circuits(told), found);
+        let told = folder.run(&[&["show", "both"], options].concat()).told();
+        assert!(told.starts_with(said), "{told}");
+    }
+    let told = folder.run(&["scan", "bits"]).told();
+    let captured = folder.run(&[&["scan", "left"], &LEFT[..]].concat()).told();
+    assert_eq!(
+        captured,
+        told.replace("\nbits read 1808,", "\nbits read 1805,")
+    );
+}
+
 /// Zeros at the end of a capture are not spare bits of a byte: show tells them.
 #[test]
 fn no_spare_bits_in_a_capture() {
@@ -391,6 +426,16 @@ fn captures_that_end_inside_a_word() {
         let ran = decode(&folder, &LEFT, "cut");
         assert_eq!((ran.status, ran.err.as_str()), (1, error.as_str()));
         assert_eq!(String::from_utf8(ran.out).unwrap(), told);
+        let ran = folder.run(&[&["decode", "cut"], &LEFT[..]].concat());
+        let found = format!("listening to 7E, 01\n{error}");
+        assert_eq!((ran.status, ran.err), (1, found), "told all the same");
+        let ran = folder.run(&[&["scan", "cut"], &LEFT[..]].concat());
+        assert_eq!((ran.status, ran.err.as_str()), (1, error.as_str()));
+        let listed = String::from_utf8(ran.out).unwrap();
+        assert!(
+            listed.contains("\nbits read 1805, circuits 2; "),
+            "{listed}"
+        );
         let ran = folder.run(&[&["show", ALL], &LEFT[..], &["cut"]].concat());
         assert_eq!((ran.status, ran.err.as_str()), (1, error.as_str()));
         let drawn = String::from_utf8(ran.out).unwrap();
@@ -545,6 +590,8 @@ fn files_in_another_format() {
             assert!(ran.err.starts_with(&warning), "{}", ran.err);
             let ran = folder.run(&[&["line", "filed", "-o", "line"], *read].concat());
             assert!(ran.err.starts_with(&warning), "{}", ran.err);
+            let ran = folder.run(&[&["scan", "filed"], *read].concat());
+            assert!(ran.err.starts_with(&warning), "{}", ran.err);
         }
         assert_eq!(
             decode(&folder, filed, "filed")
@@ -569,6 +616,10 @@ warning: two: no frame found
   4 frames with --format iec958 --channel right
 ";
     assert_eq!((ran.status, ran.err.as_str()), (0, found));
+    for subcommand in ["decode", "scan", "show"] {
+        let quiet = [subcommand, "-q", "--format=bits-msb", "two"];
+        assert_eq!(folder.run(&quiet).err, "");
+    }
     let ran = folder.run_with(&["decode", ALL, "-"], &folder.read("two"));
     let none = "warning: standard input: no frame found\n";
     assert_eq!((ran.status, ran.err.as_str()), (0, none));
@@ -592,7 +643,9 @@ fn no_warning_where_frames_are() {
 fn empty_files() {
     let folder = folder("empty");
     folder.write("empty", "");
-    let cases: [(&[&str], &str); 8] = [
+    let cases: [(&[&str], &str); 10] = [
+        (&["scan"], "user bits"),
+        (&["scan", "--format=iec958"], "user bits"),
         (&["decode", ALL], "user bits"),
         (&["decode", ALL, "--format=bits-msb"], "user bits"),
         (&["decode", ALL, "--format=iec958"], "user bits"),
@@ -613,6 +666,12 @@ fn empty_files() {
                 .failed(1, &message);
         }
     }
+    for arguments in [&["decode"][..], &["show"], &["decode", "--format=iec958"]] {
+        let message = "aes18: empty: expected user bits, not an empty file\n";
+        folder
+            .run(&[arguments, &["empty"]].concat())
+            .failed(1, message);
+    }
     assert!(!folder.path("new").exists());
 }
 
@@ -624,8 +683,22 @@ fn wrong_usage() {
     let channel = "--channel goes with --format iec958 only";
     let format = "--format: expected bits, bits-msb or iec958, not 'wav'";
     let into = "expected --format iec958 with --into";
-    let cases: [(&[&str], &str); 17] = [
+    let cases: [(&[&str], &str); 22] = [
         (&["decode", ALL, "--channel=left", "bits"], channel),
+        (&["scan", "--channel=left", "bits"], channel),
+        (&["scan", "--format=wav", "bits"], format),
+        (
+            &["scan", "--format=bits", "--format=bits", "bits"],
+            "--format is given twice",
+        ),
+        (
+            &["decode", "--format=iec958", "--channel=left", "--channel"],
+            "--channel is given twice",
+        ),
+        (
+            &["encode", "plan", "--into=a", "--into=a", "-o", "new"],
+            "--into is given twice",
+        ),
         (&["show", ALL, "--channel=left", "bits"], channel),
         (&["line", "--channel=right", "bits", "-o", "new"], channel),
         (

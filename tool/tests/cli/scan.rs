@@ -121,9 +121,12 @@ fn damage_and_nothing() {
     );
     folder.write("zeros", [0; 10]);
     let nothing = "bits read 80, circuits 0; System 0, Spoilt 0, Malformed 0\n";
-    assert_eq!(folder.run(&["scan", "zeros"]).told(), nothing);
+    let ran = folder.run(&["scan", "zeros"]);
+    let warning = "warning: zeros: no frame found, nor in another format or channel\n";
+    assert_eq!((ran.status, ran.err.as_str()), (0, warning));
+    assert_eq!(String::from_utf8(ran.out).unwrap(), nothing);
     let object = r#"{"totals":{"bits":80,"circuits":0,"system":0,"spoilt":0,"malformed":0}}"#;
-    let told = folder.run(&["scan", "--json", "zeros"]).told();
+    let told = folder.run(&["scan", "--quiet", "--json", "zeros"]).told();
     assert_eq!(parse(told.trim_end()), parse(object));
 }
 
