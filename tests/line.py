@@ -135,11 +135,19 @@ def user_bits(packets):
     return bytes(sum(bit << k for k, bit in enumerate(bits[i:i + 8])) for i in range(0, len(bits), 8))
 
 
+def without(members, named):
+    """An object without the named members."""
+    return {member: value for member, value in named.items() if member not in members}
+
+
 def decoded(*arguments):
-    """What the tool tells of user bits or a line: the notices without their places, and the totals."""
+    """What the tool tells of user bits or a line: the notices without their places and what is in no frame, and the totals."""
     told = tool("decode", "--json", "--circuits", ",".join(LISTED), *arguments).stdout
     told = [json.loads(text) for text in told.decode().splitlines()]
-    return [{member: notice[member] for member in notice if member not in ("bit", "byte")} for notice in told[:-1]], told[-1]["totals"]
+    notices = [without(("bit", "byte", "modulo8", "gap_bytes"), notice) for notice in told[:-1] if "gap" not in notice]
+    totals = told[-1]["totals"]
+    totals["circuits"] = [without(("modulo8",), circuit) for circuit in totals["circuits"]]
+    return notices, totals
 
 
 def notices(bits, packets):

@@ -8,6 +8,9 @@ use std::vec;
 use crate::error::Error;
 use crate::output;
 
+/// Bits that a block may have.
+pub const BLOCK: RangeInclusive<u64> = 256..=27000;
+
 /// An argument: an option such as `--json`, or what an option does not take, such as a file's name. `-` alone is a file's name.
 pub enum Arg {
     Option(String),
@@ -173,6 +176,11 @@ pub fn keep_operand(kept: &mut Option<OsString>, operand: OsString) -> Result<()
 /// The usage error of a command line that does not have what was expected.
 pub fn expected(what: &str) -> Error {
     Error::Usage(format!("expected {what}"))
+}
+
+/// The usage error of an option beside another that has no use for it.
+pub fn not_with(option: &str, other: &str) -> Error {
+    Error::Usage(format!("{option} does not go with {other}"))
 }
 
 /// What the command line has to name.

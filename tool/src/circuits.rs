@@ -2,7 +2,7 @@
 
 use std::ffi::OsStr;
 
-use aes18::{Circuit, Notice, Receiver};
+use aes18::Circuit;
 
 use crate::error::Error;
 
@@ -21,26 +21,6 @@ const EXTENDED: u8 = 0x20;
 pub fn option(value: &OsStr) -> Result<Vec<Circuit>, Error> {
     parse_list(&value.to_string_lossy())
         .map_err(|expected| Error::Usage(format!("--circuits: {expected}")))
-}
-
-/// A fresh receiver for circuits. Where there are none, it lists one all the same, which stands for any.
-pub fn receiver(circuits: &[Circuit]) -> Result<Receiver, Error> {
-    let any = [Circuit {
-        address: 0,
-        extension: None,
-    }];
-    let circuits = if circuits.is_empty() { &any } else { circuits };
-    Receiver::list(circuits).map_err(|refusal| Error::Data(refusal.to_string()))
-}
-
-/// A notice of a circuit where there are none, as a scan found, is of bits that were not there then.
-pub fn check_listed(circuits: &[Circuit], notice: &Notice, name: &str) -> Result<(), Error> {
-    match notice {
-        Notice::Circuit { .. } if circuits.is_empty() => {
-            Err(Error::Data(format!("{name}: changed while it was read")))
-        }
-        _ => Ok(()),
-    }
 }
 
 /// The circuit of a packet that is of some circuit: the extension stands behind the control byte, whose bit A5 says whether there is one.
@@ -112,7 +92,7 @@ fn hex_byte(word: &str) -> Option<u8> {
 
 #[cfg(test)]
 mod tests {
-    use aes18::Fate;
+    use aes18::Receiver;
 
     use super::*;
 
@@ -173,24 +153,6 @@ mod tests {
         for text in ["1 1:0", "1:0 1:1", "0 fe"] {
             assert!(Receiver::list(&parse_list(text).unwrap()).is_ok(), "{text}");
         }
-    }
-
-    /// Only where none are listed a notice of a circuit is not expected.
-    #[test]
-    fn a_circuit_where_there_was_none() {
-        let fate = Fate::Copy;
-        let notice = Notice::Circuit {
-            number: 0,
-            loss: 0,
-            fate,
-        };
-        let listed = [circuit(0x01, None)];
-        assert!(check_listed(&listed, &notice, "bits").is_ok());
-        assert!(check_listed(&[], &Notice::Spoilt, "bits").is_ok());
-        let Err(Error::Data(message)) = check_listed(&[], &notice, "bits") else {
-            panic!("a notice of no circuit is taken");
-        };
-        assert_eq!(message, "bits: changed while it was read");
     }
 
     #[test]

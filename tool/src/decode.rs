@@ -1,37 +1,37 @@
 //! `aes18 decode`: what is in filed user bits, or on a serial line.
 
-mod counts;
 mod folder;
 mod format;
 mod json;
 mod line;
+mod packets;
+mod teller;
 mod text;
 
 use std::ffi::OsString;
-use std::io::{self, BufWriter, Write};
 
-use aes18::{Circuit, Notice, Read, Receiver, RECEIVER_STORE};
+use aes18::Circuit;
 
-use crate::args::{self, Arg, Args};
+use crate::account::Unit;
+use crate::args::{self, Arg, Args, BLOCK};
 use crate::circuits;
 use crate::error::Error;
 use crate::formats::{self, Choice};
-use crate::frames;
 use crate::input::{Chunk, Content, Input};
-use crate::output::{say_raw, Unread};
+use crate::output::say_raw;
+use crate::pass::Pass;
 use crate::progress::Progress;
 use crate::scan::Listening;
-use counts::Counts;
 use folder::Folder;
-use format::{Format, Told, Unit};
 use json::Json;
-use line::Line;
+use packets::Packets;
+use teller::Teller;
 use text::Text;
 
 pub const HELP: &str = r#"aes18 decode: tell what is in filed user bits, or on a serial line
 
-Usage: aes18 decode [--circuits ADDR[:EXT],..] [--json] [--messages DIR] BITS
-       aes18 decode --line [--circuits ADDR[:EXT],..] [..] LINE
+Usage: aes18 decode [--circuits ADDR[:EXT],..] [OPTIONS] BITS
+       aes18 decode --line [--circuits ADDR[:EXT],..] [OPTIONS] LINE
 
   BITS               the file of user bits, or - for the standard input
   --format FORMAT    bits: eight in a byte, the first in the lowest bit, as
@@ -43,12 +43,17 @@ Usage: aes18 decode [--circuits ADDR[:EXT],..] [--json] [--messages DIR] BITS
   --circuits LIST    one to four circuits to listen to, such as 01,02:07:
                      address and extension in hex, divided by commas or spaces;
                      without it those four with most packets
+  --block N          the bits of a block, 256 to 27000: closing ones end where a
+                     block does, counted from bit 0
   --json             one JSON object a line
   --messages DIR     write each message handed over to a file of its own in DIR,
                      which is made where it is missing: 000001-01.bin, then
                      000002-02-07.bin, by order, address and extension; a folder
                      with such files in it is refused; a file appears there
                      when it is complete
+  --strict           exit status 3 if anything is lost, spoilt, malformed,
+                     orphaned, wrong, dropped, open at the end, known only
+                     modulo 8, or in no frame
   -q, --quiet        say nothing but errors on the standard error
   -h, --help         print this help
 
@@ -78,17 +83,49 @@ number, from 0, of the first bit behind the closing flag; then
                a packet of a circuit that is not listed, which is named
 
 Messages and information are quoted text with escapes or hex digits, as a plan
-of aes18 encode takes them. At the end stand the totals: for each circuit the
-packets that came, copies not counted; the copies; the packets lost; messages
-handed over and their bytes; orphans; and wrong ones. Lost, messages, bytes and
-orphans stop at 4,294,967,295, which stands for that many or more.
+of aes18 encode takes them.
+
+  bits 5120 to 7167: in no frame, 2048 bits
+        a stretch that is no part of a frame which passes, nor of its flags, nor
+        closing ones: told when it has ended, before the notice behind it. Bits
+        of spoilt frames are in it, and flags that border nothing else. Ones
+        are closing ones directly behind a flag, and with --block N up to the
+        block's end: then a block replaced by ones is told, and one in which
+        nothing was sent. Up to seven zeros that end the file, behind closing
+        ones or a flag, are the last byte's spare bits and in no stretch.
+  bits 0 to 11: before the first flag, 12 bits
+        the recording may begin inside a frame; --strict lets this pass
+  loss 0 modulo 8 (2048 bits in no frame)
+        since the circuit's packet before this one so much was in no frame, 280
+        bits or more, that seven packets may be lost in it. So the true loss may
+        be 8 more, or 16, and so on; and a Copy may be another packet, whose
+        message is not handed over.
+  message dropped
+        the message that was open there is not handed over
+
+No trace is left by bits that are missing altogether, by dropouts to flags and,
+without --block, by dropouts to ones behind a flag.
+
+At the end stand the totals: for each circuit the packets that came, copies not
+counted; the copies; the packets lost; how many of these losses and copies are
+known only modulo 8; the packets that began a message and that were held; the
+messages handed over and their bytes; those begun and dropped; orphans; and
+wrong ones. Lost, messages, bytes and orphans stop at
+4,294,967,295, which stands for that many or more. A message that is open at the
+end of the file is named, with how much of it has come and the place of its
+notice Begun.
 
 With --json a notice has the members bit and notice; System enable and code; a
-circuit's number, circuit, loss and fate; Elsewhere circuit; Whole and System
-also length, hex and, if it is printable text, text; and with --messages file.
-The last object has the one member totals. Without --circuits the first has the
-one member listening, an object with the members to and not, in each a list of
-circuits as objects with the members circuit and packets.
+circuit's number, circuit, loss and fate, and where they apply modulo8 (true)
+with gap_bits, and dropped (true); Elsewhere circuit; Whole and System also
+length, hex and, if it is printable text, text; and with --messages file. A
+stretch in no frame has the one member gap: from, to, which is the bit behind
+the last, bits and, where it applies, before_first_flag (true). The last object
+has the one member totals, with bits, before (the first flag), gaps, gap_bits
+and modulo8 (places), the figures of the circuits, the messages that are open,
+and what is untraced. Without --circuits the first object has the one member
+listening, with the members to and not, in each a list of circuits as objects
+with the members circuit and packets.
 
 A capture (iec958) has words of 32 bits, the lowest byte first, left and right
 in turn, and no header. The user bit is bit 29 of a word. Which channel a word
@@ -103,14 +140,14 @@ LINE has the octet-stuffed frames of RFC 1662, or - is the standard input. A
 packet on it is told as it would be out of user bits. Its place is how many
 bytes of the line were read when it was told: the number, from 0, of the first
 byte behind the closing flag. The totals have the bytes read in place of the
-bits, and --json the members byte and bytes. A frame is dropped without a
-notice if its FCS is wrong, if its packet is outside 2 to 19 bytes or if its
-escape is followed by a flag. So there is no Spoilt, and in its place the
+bits, and --json the members byte, bytes and gap_bytes. A frame is dropped
+without a notice if its FCS is wrong, if its packet is outside 2 to 19 bytes or
+if its escape is followed by a flag. So there is no Spoilt, and in its place the
 totals have Dropped: how often the bytes between two flags gave no packet.
-Bytes before the first flag and behind the last give no packet either, such as
-a last frame whose closing flag is missing; the totals say how many there are,
-with --json in the members before and behind. Where there is no flag all bytes
-are before the first.
+They are told as stretches in no frame, in bytes, and from 35 bytes on a loss
+behind them is known only modulo 8. Bytes before the first flag and behind the
+last give no packet either, such as a last frame whose closing flag is missing;
+the totals say how many there are, with --json in the members before and behind.
 
 A serial device as LINE has to be in raw mode first, or it changes bytes: 0D
 becomes 0A, 11 and 13 are taken as flow control, and so on. With the device's
@@ -124,7 +161,7 @@ that it must be raw; it is read all the same.
 Where the standard error is a terminal and the standard output is not, a bar
 shows how far a long reading has come.
 Exit status: 0; 1 for a refusal or a file that cannot be read; 2 for wrong
-usage.
+usage; 3 where --strict finds something, after all is told.
 "#;
 
 /// What the command line asks for.
@@ -134,41 +171,22 @@ struct Request {
     json: bool,
     messages: Option<OsString>,
     content: Content,
+    block: Option<u64>,
+    strict: bool,
     file: OsString,
 }
 
-/// Runs the subcommand. Where messages are written to files, a standard output that is closed does not end the reading.
+/// Runs the subcommand.
 pub fn run(args: Args) -> Result<(), Error> {
     let request = Request::parse(args)?;
     let listening = request.listening()?;
-    let circuits = match &listening {
-        Some(listening) => listening.circuits(),
-        None => request.circuits.clone().unwrap_or_default(),
-    };
     let mut input = Input::open(&request.file, request.content)?;
     if request.content == Content::Line && input.is_terminal() {
         say_raw(input.name());
     }
-    let folder = request.messages.as_deref().map(Folder::open).transpose()?;
-    let stdout: Box<dyn Write> = match folder {
-        Some(_) => Box::new(Unread(io::stdout().lock())),
-        None => Box::new(io::stdout().lock()),
-    };
-    let mut decoder = Decoder {
-        name: input.name().to_string(),
-        receiver: circuits::receiver(&circuits)?,
-        store: vec![0; RECEIVER_STORE],
-        line: Line::default(),
-        counts: Counts::new(request.unit(), &circuits),
-        circuits,
-        folder,
-        format: if request.json { &Json } else { &Text },
-        passed: false,
-        out: BufWriter::new(stdout),
-    };
-    if let Some(listening) = listening {
-        let told = decoder.format.listening(&mut decoder.out, &listening);
-        told.map_err(|error| Error::stdout(&error))?;
+    let mut decoder = request.decoder(input.name(), &listening)?;
+    if let Some(listening) = &listening {
+        decoder.teller.listening(listening)?;
     }
     let mut progress = Progress::beside_output(input.length());
     while let Some(chunk) = input.chunk()? {
@@ -176,12 +194,16 @@ pub fn run(args: Args) -> Result<(), Error> {
         progress.add(chunk.read);
     }
     drop(progress);
-    let passed = decoder.passed;
-    decoder.finish()?;
+    let passed = decoder.passed();
+    let faults = decoder.finish()?;
     if let (Content::Bits(used), false) = (request.content, passed) {
         formats::warn_of_no_frame(&request.file, &input, used)?;
     }
-    input.end()
+    input.end()?;
+    match request.strict {
+        true => Error::strict(input.name(), faults),
+        false => Ok(()),
+    }
 }
 
 impl Request {
@@ -190,6 +212,8 @@ impl Request {
         let mut json = false;
         let mut messages = None;
         let mut line = false;
+        let mut block = None;
+        let mut strict = false;
         let mut file = None;
         let mut choice = Choice::default();
         while let Some(arg) = args.next()? {
@@ -200,23 +224,24 @@ impl Request {
                     "--messages" => messages = Some(args.value("a folder")?),
                     "--json" => json = true,
                     "--line" => line = true,
+                    "--block" => block = Some(args.number(BLOCK)?),
+                    "--strict" => strict = true,
                     _ => return Err(args::unknown_option(&name)),
                 },
                 Arg::Operand(path) => args::keep_operand(&mut file, path)?,
             }
         }
-        let expected = match line {
-            true => "a file of a serial line",
-            false => "a file of user bits",
+        let (expected, content) = match line {
+            true => ("a file of a serial line", line_content(choice, block)?),
+            false => ("a file of user bits", Content::Bits(choice.finish()?)),
         };
         Ok(Request {
             circuits: circuits.as_deref().map(circuits::option).transpose()?,
             json,
             messages,
-            content: match line {
-                true => choice.refuse_with("--line").map(|()| Content::Line)?,
-                false => Content::Bits(choice.finish()?),
-            },
+            content,
+            block,
+            strict,
             file: args::needed(file, expected)?,
         })
     }
@@ -230,134 +255,117 @@ impl Request {
         }
     }
 
-    /// What places are counted in.
-    fn unit(&self) -> Unit {
-        match self.content {
-            Content::Line => Unit::Byte,
-            _ => Unit::Bit,
-        }
+    /// What reads the file of that name and tells of it.
+    fn decoder(&self, name: &str, listening: &Option<Listening>) -> Result<Decoder, Error> {
+        let circuits = match listening {
+            Some(listening) => listening.circuits(),
+            None => self.circuits.clone().unwrap_or_default(),
+        };
+        let (unit, source) = match self.content {
+            Content::Bits(formats) => {
+                let pass = Pass::new(&circuits, self.block, formats.spare())?;
+                (Unit::Bit, Source::Bits(Box::new(pass)))
+            }
+            _ => {
+                let packets = Packets::new(name, &circuits)?;
+                (Unit::Byte, Source::Line(Box::new(packets)))
+            }
+        };
+        let folder = self.messages.as_deref().map(Folder::open).transpose()?;
+        let block = self.block.is_some();
+        let teller = match self.json {
+            true => Teller::new(unit, circuits, block, folder, &Json),
+            false => Teller::new(unit, circuits, block, folder, &Text),
+        };
+        Ok(Decoder { source, teller })
     }
 }
 
-/// A receiver at work, with what it has told so far.
+/// A serial line, which has no formats and no blocks.
+fn line_content(choice: Choice, block: Option<u64>) -> Result<Content, Error> {
+    choice.refuse_with("--line")?;
+    match block {
+        Some(_) => Err(args::not_with("--block", "--line")),
+        None => Ok(Content::Line),
+    }
+}
+
+/// What notices come from.
+enum Source {
+    Bits(Box<Pass>),
+    Line(Box<Packets>),
+}
+
+/// A receiver at work, and what is told of it.
 struct Decoder {
-    /// The file that is read, for messages.
-    name: String,
-    receiver: Receiver,
-    store: Vec<u8>,
-    line: Line,
-    circuits: Vec<Circuit>,
-    counts: Counts,
-    folder: Option<Folder>,
-    format: &'static dyn Format,
-    /// Whether a frame has passed.
-    passed: bool,
-    out: BufWriter<Box<dyn Write>>,
+    source: Source,
+    teller: Teller,
 }
 
 impl Decoder {
     /// Reads the next chunk and tells its notices.
     fn read(&mut self, chunk: &Chunk<'_>) -> Result<(), Error> {
-        match self.counts.unit {
-            Unit::Bit => self.read_bits(chunk.bytes, chunk.bits)?,
-            Unit::Byte => self.read_line(chunk.bytes)?,
-        }
-        self.out.flush().map_err(|error| Error::stdout(&error))
-    }
-
-    /// Reads user bits, which the bytes begin with.
-    fn read_bits(&mut self, bytes: &[u8], to: u64) -> Result<(), Error> {
-        let mut from = 0;
-        loop {
-            let framing = self.receiver.framing();
-            let read = self.receive(bytes, from, to)?;
-            let behind = from + read.bits;
-            self.counts.read += read.bits;
-            let packet = match read.notice {
-                Notice::End => return Ok(()),
-                Notice::Elsewhere => frames::packet(framing, bytes, from, behind),
-                _ => Ok(None),
-            };
-            let packet = packet.map_err(|refusal| Error::Data(refusal.to_string()))?;
-            self.tell(read.notice, packet.as_deref())?;
-            from = behind;
-        }
-    }
-
-    /// Reads bytes of a serial line. Each packet goes to the receiver as a frame in user bits.
-    fn read_line(&mut self, mut bytes: &[u8]) -> Result<(), Error> {
-        loop {
-            let read = self.line.read(bytes);
-            bytes = &bytes[read.bytes..];
-            self.counts.read += read.bytes as u64;
-            self.counts.rest = self.line.rest();
-            match read.packet {
-                Some(packet) => self.read_packet(&packet)?,
-                None => return Ok(()),
-            }
-        }
-    }
-
-    /// Reads a packet of a serial line, which is one notice of a frame that passes.
-    fn read_packet(&mut self, packet: &[u8]) -> Result<(), Error> {
-        let checked = frames::with_fcs(packet);
-        let frame = frames::in_bits(&checked.map_err(|refusal| Error::Data(refusal.to_string()))?);
-        let read = self.receive(&frame.bytes, 0, frame.count)?;
-        match read.notice {
-            Notice::Spoilt | Notice::End => Err(self.fault()),
-            _ if read.bits < frame.count => Err(self.fault()),
-            notice => self.tell(notice, Some(packet)),
-        }
-    }
-
-    /// A call of the receiver.
-    fn receive(&mut self, bits: &[u8], from: u64, to: u64) -> Result<Read, Error> {
-        let read = self.receiver.read(&mut self.store, bits, from, to);
-        let read = read.map_err(|refusal| Error::Data(refusal.to_string()))?;
-        circuits::check_listed(&self.circuits, &read.notice, &self.name)?;
-        Ok(read)
-    }
-
-    /// The error where the receiver does not take a packet of the line for one.
-    fn fault(&self) -> Error {
-        Error::Data(format!(
-            "{}: byte {}: the frame before this byte has a right FCS, and aes18 put it wrongly into user bits: an error of aes18 itself",
-            self.name, self.counts.read
-        ))
-    }
-
-    /// Counts a notice, files its message and tells it. At Elsewhere the packet says which circuit it is of.
-    fn tell(&mut self, notice: Notice, packet: Option<&[u8]>) -> Result<(), Error> {
-        self.counts.count(&notice);
-        self.passed |= notice != Notice::Spoilt;
-        let message = notice.message(&self.store);
-        let file = match (&notice, message, &mut self.folder) {
-            (Notice::Circuit { number, .. }, Some(message), Some(folder)) => {
-                Some(folder.write(self.circuits[*number], message)?)
-            }
-            _ => None,
+        let read = match &mut self.source {
+            Source::Bits(pass) => read_bits(pass, &mut self.teller, chunk.bytes, chunk.bits),
+            Source::Line(packets) => read_line(packets, &mut self.teller, chunk.bytes),
         };
-        let told = Told {
-            unit: self.counts.unit,
-            place: self.counts.read,
-            notice,
-            circuits: &self.circuits,
-            elsewhere: packet
-                .filter(|_| notice == Notice::Elsewhere)
-                .and_then(circuits::of_packet),
-            bytes: message.or_else(|| notice.information(&self.store)),
-            file: file.as_deref(),
-        };
-        self.format
-            .notice(&mut self.out, &told)
-            .map_err(|error| Error::stdout(&error))
+        let sent = self.teller.send();
+        read.and(sent)
     }
 
-    /// Tells the counts.
-    fn finish(mut self) -> Result<(), Error> {
-        self.format
-            .counts(&mut self.out, &self.counts)
-            .and_then(|()| self.out.flush())
-            .map_err(|error| Error::stdout(&error))
+    /// Whether a frame passed.
+    fn passed(&self) -> bool {
+        match &self.source {
+            Source::Bits(pass) => pass.passed(),
+            Source::Line(packets) => packets.history.passed(),
+        }
+    }
+
+    /// Tells the counts; answers what was at fault, in words.
+    fn finish(mut self) -> Result<Option<String>, Error> {
+        let (gaps, unfinished, rest) = match &mut self.source {
+            Source::Bits(pass) => {
+                pass.end();
+                (pass.gaps(), pass.unfinished(), None)
+            }
+            Source::Line(packets) => {
+                let rest = packets.line.rest();
+                packets.line.end();
+                let unfinished = packets.history.unfinished();
+                (packets.line.gaps(), unfinished, Some(rest))
+            }
+        };
+        self.teller.tell_gaps(&gaps)?;
+        self.teller.finish(unfinished, rest)
+    }
+}
+
+/// Reads user bits, which the bytes begin with.
+fn read_bits(pass: &mut Pass, teller: &mut Teller, bytes: &[u8], bits: u64) -> Result<(), Error> {
+    let mut from = 0;
+    while from < bits {
+        let told = pass.read(bytes, from, bits)?;
+        from += told.bits;
+        teller.read += told.bits;
+        teller.tell_gaps(&pass.gaps())?;
+        if let Some(heard) = told.heard {
+            teller.tell(&heard, pass.store())?;
+        }
+    }
+    Ok(())
+}
+
+/// Reads bytes of a serial line.
+fn read_line(packets: &mut Packets, teller: &mut Teller, mut bytes: &[u8]) -> Result<(), Error> {
+    loop {
+        let read = packets.line.read(bytes);
+        bytes = &bytes[read.bytes..];
+        teller.read += read.bytes as u64;
+        teller.tell_gaps(&packets.line.gaps())?;
+        let Some(packet) = read.packet else {
+            return Ok(());
+        };
+        let heard = packets.hear(&packet, teller.read)?;
+        teller.tell(&heard, packets.listener.store())?;
     }
 }

@@ -15,6 +15,8 @@ pub enum Error {
     Data(String),
     /// A refusal or bad data at a line of a text file, which the message begins with: status 1.
     Line(String),
+    /// The option `--strict` was given and something is at fault: status 3.
+    Strict(String),
     /// Whoever reads the standard output has closed it: status 0, and nothing to say.
     Closed,
 }
@@ -35,6 +37,14 @@ impl Error {
         match error.kind() {
             io::ErrorKind::BrokenPipe => Error::Closed,
             _ => Error::file("standard output", error),
+        }
+    }
+
+    /// What `--strict` says of a file in which that is at fault, in words, if anything is.
+    pub fn strict(file: &str, faults: Option<String>) -> Result<(), Error> {
+        match faults {
+            Some(faults) => Err(Error::Strict(format!("{file}: --strict: {faults}"))),
+            None => Ok(()),
         }
     }
 
@@ -60,6 +70,10 @@ impl Error {
             Error::Line(message) => {
                 say_error(message);
                 ExitCode::from(1)
+            }
+            Error::Strict(message) => {
+                say_error(&format!("aes18: {message}"));
+                ExitCode::from(3)
             }
             Error::Closed => ExitCode::SUCCESS,
         }

@@ -1,23 +1,22 @@
 //! Where the flags and bodies of a pass lie. What a body is, the library's notice says; its extent is that between the last two flags,
 //! which are looked for here in the same bits.
 
-use std::mem;
+use aes18::Notice;
 
-use aes18::{Notice, Receiver, RECEIVER_STORE};
-
-use crate::error::Error;
-use crate::frames;
+use crate::account::Heard;
 
 /// What a stretch of bits is.
 #[derive(Clone, Copy, Debug, PartialEq, Eq)]
 pub enum Kind {
-    /// Ones that are in no flag and no body: the closing ones of a block.
+    /// The bits before the first flag.
+    Before,
+    /// The closing ones of a block: ones directly behind a flag, up to the block's end where its length is known.
     Idle,
-    /// Other bits that gave no notice: void, too few, before the first flag or behind the last.
+    /// Other bits that gave no notice: void, too few, or behind the last flag. Where there is no flag, all are.
     Void,
     Flag,
     /// The bits between two flags that gave this notice.
-    Body(Notice),
+    Body(Heard),
 }
 
 /// Neighbouring bits `from..to` of one kind, numbered from 0 over the whole pass.
@@ -28,133 +27,228 @@ pub struct Stretch {
     pub kind: Kind,
 }
 
-/// A pass being read.
-pub struct Pass {
-    receiver: Receiver,
-    store: Vec<u8>,
-    extents: Extents,
-    ended: bool,
-}
-
-impl Pass {
-    /// Nothing read yet. The last byte may have spare bits where `spare` says so.
-    pub fn new(receiver: Receiver, spare: bool) -> Pass {
-        Pass {
-            receiver,
-            store: vec![0; RECEIVER_STORE],
-            extents: Extents {
-                spare,
-                ..Extents::default()
-            },
-            ended: false,
+impl Stretch {
+    /// At a packet of a circuit before which packets were lost, or whose loss is known only modulo 8: the circuit's number, the loss, and whether it
+    /// is known only so.
+    pub fn loss(&self) -> Option<(usize, u8, bool)> {
+        let Kind::Body(heard) = self.kind else {
+            return None;
+        };
+        match (heard.notice, heard.free.is_some()) {
+            (Notice::Circuit { loss: 0, .. }, false) => None,
+            (Notice::Circuit { number, loss, .. }, modulo) => Some((number, loss, modulo)),
+            _ => None,
         }
-    }
-
-    /// Reads the next bits, which the bytes begin with, and answers the stretches known by then, each behind the one before it.
-    pub fn read(&mut self, bytes: &[u8], bits: u64) -> Result<Vec<Stretch>, Error> {
-        let mut at = 0;
-        while at < bits {
-            let read = self.receiver.read(&mut self.store, bytes, at, bits);
-            let read = read.map_err(|refusal| Error::Data(refusal.to_string()))?;
-            let notice = Some(read.notice).filter(|notice| *notice != Notice::End);
-            self.extents.follow(bytes, at, at + read.bits, notice);
-            at += read.bits;
-        }
-        Ok(mem::take(&mut self.extents.known))
-    }
-
-    /// The last stretches, when all bytes are read.
-    pub fn end(&mut self) -> Vec<Stretch> {
-        self.ended = true;
-        self.extents.end();
-        mem::take(&mut self.extents.known)
-    }
-
-    /// Whether the last stretches are told.
-    pub fn ended(&self) -> bool {
-        self.ended
     }
 }
 
-/// Cuts the bits into stretches. A stretch is known when the flag behind it is read, or seven ones.
-#[derive(Default)]
-struct Extents {
+/// Where the bits stand that are in no known stretch.
+#[derive(Clone, Copy, Debug, Default, PartialEq, Eq)]
+enum Place {
+    /// No flag was read yet.
+    #[default]
+    Before,
+    /// Behind a flag.
+    Body,
+    /// Among closing ones, seven or more.
+    Idle,
+    /// Behind closing ones.
+    Behind,
+    /// In a body that seven ones voided.
+    Void,
+}
+
+/// Cuts the bits into stretches. A stretch is known when the flag behind it is read; closing ones, seven or more, when they end.
+pub struct Extents {
+    pub known: Vec<Stretch>,
+    /// Bits of a block, where that is known.
+    block: Option<u64>,
     /// Whether the last byte may have spare bits.
     spare: bool,
-    known: Vec<Stretch>,
     /// How many bits are followed.
     at: u64,
     /// The first bit that is in no known stretch.
     from: u64,
-    /// Zeros from there on.
-    zeros: u64,
-    /// How many of them stand in a row before `at`.
-    trailing: u64,
-    /// Ones in a row before `at`.
+    place: Place,
+    /// The first zero from there on; `u64::MAX` where there is none yet.
+    zero: u64,
+    /// Ones in a row before `at`, and zeros.
     ones: u64,
+    zeros: u64,
 }
 
 impl Extents {
+    /// Nothing followed yet. Blocks are counted from bit 0.
+    pub fn new(block: Option<u64>, spare: bool) -> Extents {
+        Extents {
+            known: Vec::new(),
+            block,
+            spare,
+            at: 0,
+            from: 0,
+            place: Place::Before,
+            zero: u64::MAX,
+            ones: 0,
+            zeros: 0,
+        }
+    }
+
+    /// Whether closing ones are read.
+    pub fn is_idle(&self) -> bool {
+        self.place == Place::Idle
+    }
+
     /// Follows the bits `from..to` of the bytes, of which the last one gave the notice, if there is one.
-    fn follow(&mut self, bytes: &[u8], from: u64, to: u64, notice: Option<Notice>) {
-        for bit in from..to {
-            match frames::bit(bytes, bit) {
-                true => self.one(),
-                false => self.zero(notice.filter(|_| bit + 1 == to)),
+    pub fn follow(&mut self, bytes: &[u8], from: u64, to: u64, notice: Option<Notice>) {
+        let mut bit = from;
+        while bit < to {
+            let plain = self.plain(bytes, bit, to);
+            if plain > 0 {
+                bit += plain;
+                continue;
             }
-            self.at += 1;
+            let byte = bytes[(bit / 8) as usize] >> (bit % 8);
+            let most = (8 - bit % 8).min(to - bit);
+            bit += match byte & 1 == 1 {
+                true => self.ones(most.min(byte.trailing_ones().into())),
+                false => {
+                    let zeros = most.min(byte.trailing_zeros().into());
+                    self.zeros(zeros, notice.filter(|_| bit + 1 == to))
+                }
+            };
         }
     }
 
-    /// A one. The seventh in a row voids a body: what stands before the seven gives no notice any more.
-    fn one(&mut self) {
-        self.ones += 1;
-        self.trailing = 0;
-        if self.ones == 7 {
-            self.cut(self.at - 6, Kind::Void);
+    /// Follows the next eight bytes or the next byte at once, where these are whole ones and nothing ends in them; answers how many bits that was.
+    fn plain(&mut self, bytes: &[u8], bit: u64, to: u64) -> u64 {
+        if bit % 8 != 0 {
+            return 0;
+        }
+        let here = &bytes[(bit / 8) as usize..(to / 8) as usize];
+        if let Some(eight) = here.first_chunk::<8>() {
+            if self.take(u64::from_le_bytes(*eight), 64) {
+                return 64;
+            }
+        }
+        match here.first() {
+            Some(byte) if self.take(u64::from(*byte), 8) => 8,
+            _ => 0,
         }
     }
 
-    /// A zero. Behind exactly six ones, with a zero before them, it ends a flag.
-    fn zero(&mut self, notice: Option<Notice>) {
-        match self.ones {
-            6 if self.at > 6 => self.flag(notice),
-            0..=6 => self.plain_zero(),
-            _ => {
-                self.cut(self.at, Kind::Idle);
-                self.plain_zero();
+    /// Follows so many bits, the first in the lowest, unless they end a flag, void a body or end seven or more ones.
+    fn take(&mut self, bits: u64, count: u32) -> bool {
+        let first = bits.trailing_ones().min(count);
+        let two = bits & bits >> 1;
+        let six = two & two >> 2 & two >> 4;
+        match first == count {
+            true if self.ones >= 7 => self.ones += u64::from(count),
+            false if six == 0 && self.ones + u64::from(first) < 6 => {
+                self.zero = self.zero.min(self.at + u64::from(first));
+                self.ones = u64::from((bits << (64 - count)).leading_ones());
             }
+            _ => return false,
         }
+        let zeros = (bits << (64 - count)).leading_zeros();
+        self.zeros = match bits {
+            0 => self.zeros + u64::from(count),
+            _ => u64::from(zeros),
+        };
+        self.at += u64::from(count);
+        true
+    }
+
+    /// So many ones. The seventh in a row voids a body; where they stand directly behind the flag they are closing ones.
+    fn ones(&mut self, count: u64) -> u64 {
+        let first = self.at - self.ones;
+        self.ones += count;
+        self.zeros = 0;
+        self.at += count;
+        if self.ones >= 7 && self.place == Place::Body {
+            self.place = match first == self.from && self.from < self.block_end() {
+                true => Place::Idle,
+                false => Place::Void,
+            };
+        }
+        count
+    }
+
+    /// So many zeros. The first, behind exactly six ones with a zero before them, ends a flag.
+    fn zeros(&mut self, count: u64, notice: Option<Notice>) -> u64 {
+        if self.place == Place::Idle {
+            self.end_ones();
+        }
+        let behind = match self.ones == 6 && self.at > 6 {
+            true => {
+                self.flag(notice);
+                self.at + 1
+            }
+            false => self.at,
+        };
+        self.at += count;
         self.ones = 0;
-    }
-
-    fn plain_zero(&mut self) {
-        self.zeros += 1;
-        self.trailing += 1;
+        if behind < self.at {
+            self.zero = self.zero.min(behind);
+            self.zeros += self.at - behind;
+        }
+        count
     }
 
     /// The last bit of a flag, whose first bit may be the last of the flag before it.
     fn flag(&mut self, notice: Option<Notice>) {
-        let before = match notice {
-            Some(notice) => Kind::Body(notice),
-            None if self.zeros == 1 => Kind::Idle,
-            None => Kind::Void,
-        };
-        self.cut(self.at - 7, before);
+        let first = self.at - 7;
+        match (notice, self.place) {
+            (Some(notice), _) => self.cut(first, Kind::Body(Heard::plain(notice))),
+            (None, Place::Before) => self.cut(first, Kind::Before),
+            (None, Place::Body) if self.zero >= first => self.cut_ones(first),
+            (None, _) => self.cut(first, Kind::Void),
+        }
         self.cut(self.at + 1, Kind::Flag);
+        self.place = Place::Body;
+        self.zero = u64::MAX;
+        self.zeros = 0;
     }
 
-    /// Up to seven zeros behind ones or a flag are spare bits of the last byte and are in no stretch.
-    fn end(&mut self) {
-        let spare = match self.spare && self.zeros == self.trailing && self.trailing < 8 {
-            true => self.trailing,
-            false => 0,
+    /// Seven or more ones end before this bit. Those behind the block's end are no closing ones, and nor is what stands behind them.
+    fn end_ones(&mut self) {
+        self.place = match self.at <= self.block_end() {
+            true => Place::Behind,
+            false => Place::Void,
         };
-        let kind = match self.zeros == spare {
-            true => Kind::Idle,
-            false => Kind::Void,
-        };
-        self.cut(self.at - spare, kind);
+        self.cut(self.at.min(self.block_end()), Kind::Idle);
+    }
+
+    /// The bits not yet in a stretch, up to the bit `to`, are ones behind a flag.
+    fn cut_ones(&mut self, to: u64) {
+        self.cut(to.min(self.block_end()), Kind::Idle);
+        self.cut(to, Kind::Void);
+    }
+
+    /// The last stretches.
+    pub fn end(&mut self) {
+        match self.place {
+            Place::Idle => {
+                self.end_ones();
+                self.cut(self.at, Kind::Void);
+            }
+            Place::Body if self.is_closed(self.zero) => self.cut_ones(self.zero.min(self.at)),
+            Place::Behind if self.is_closed(self.from) => {}
+            _ => self.cut(self.at, Kind::Void),
+        }
+    }
+
+    /// Whether from this bit on, behind closing ones or a flag, there are no bits but spare ones of the last byte, which are in no stretch: up to seven
+    /// zeros.
+    fn is_closed(&self, zero: u64) -> bool {
+        let rest = self.at.saturating_sub(zero);
+        let spare = self.spare && rest < 8 && zero <= self.block_end();
+        rest == 0 || rest == self.zeros && spare
+    }
+
+    /// The end of the block that the last bit of a known stretch is in.
+    fn block_end(&self) -> u64 {
+        self.block
+            .map_or(u64::MAX, |bits| self.from.div_ceil(bits) * bits)
     }
 
     /// The bits not yet in a stretch are one up to, and not with, the bit `to`, if any are before it.
@@ -163,8 +257,6 @@ impl Extents {
             let from = self.from;
             self.known.push(Stretch { from, to, kind });
             self.from = to;
-            self.zeros = 0;
-            self.trailing = 0;
         }
     }
 }
@@ -173,28 +265,15 @@ impl Extents {
 mod tests {
     use super::*;
 
-    /// The stretches of bits written as text, where `|` behind a bit says that it gave the notice Spoilt, each as its kind's letter and its length.
-    fn cut(text: &str) -> String {
-        cut_with(text, true)
-    }
-
-    /// The same, with or without spare bits.
-    fn cut_with(text: &str, spare: bool) -> String {
-        let mut extents = Extents {
-            spare,
-            ..Extents::default()
-        };
-        let mut bits = text.chars().filter(|c| *c != ' ').peekable();
-        while let Some(bit) = bits.next() {
-            let notice = bits.next_if_eq(&'|').map(|_| Notice::Spoilt);
-            extents.follow(&[u8::from(bit == '1')], 0, 1, notice);
-        }
+    /// The stretches that were cut, each as its kind's letter and its length.
+    fn letters(mut extents: Extents) -> String {
         extents.end();
         let mut end = 0;
         let letters = extents.known.iter().map(|stretch| {
             assert_eq!(stretch.from, end);
             end = stretch.to;
             let letter = match stretch.kind {
+                Kind::Before => 's',
                 Kind::Idle => 'i',
                 Kind::Void => 'v',
                 Kind::Flag => 'f',
@@ -205,14 +284,34 @@ mod tests {
         letters.collect::<Vec<_>>().join(" ")
     }
 
+    /// The stretches of bits written as text, where `|` behind a bit says that it gave the notice Spoilt. Spaces are left out.
+    fn cut_with(block: Option<u64>, spare: bool, text: &str) -> String {
+        let mut extents = Extents::new(block, spare);
+        let mut bits = text.chars().filter(|c| *c != ' ').peekable();
+        while let Some(bit) = bits.next() {
+            let notice = bits.next_if_eq(&'|').map(|_| Notice::Spoilt);
+            extents.follow(&[u8::from(bit == '1')], 0, 1, notice);
+        }
+        letters(extents)
+    }
+
+    fn cut(text: &str) -> String {
+        cut_with(None, true, text)
+    }
+
+    fn cut_in_blocks(block: u64, text: &str) -> String {
+        cut_with(Some(block), true, text)
+    }
+
     #[test]
     fn flags() {
         assert_eq!(cut("01111110"), "f8");
         assert_eq!(cut("01111110 01111110"), "f8 f8");
         assert_eq!(cut("01111110 1111110"), "f8 f7");
         assert_eq!(cut("1111110 1"), "v8");
-        assert_eq!(cut("1111110 1111110"), "i6 f8");
-        assert_eq!(cut("01111111 0"), "v1 i7");
+        assert_eq!(cut("1111110 1111110"), "s6 f8");
+        assert_eq!(cut("01111111 0"), "v9");
+        assert_eq!(cut("01111111 01111110"), "s8 f8");
     }
 
     #[test]
@@ -220,22 +319,109 @@ mod tests {
         assert_eq!(cut("01111110 0101 01111110|"), "f8 b4 f8");
         assert_eq!(cut("01111110 0101 01111110"), "f8 v4 f8");
         assert_eq!(cut("01111110 111 01111110"), "f8 i3 f8");
+        assert_eq!(cut("01111110 11111 01111110"), "f8 i5 f8");
         assert_eq!(cut("01111110 11111111111 01111110"), "f8 i11 f8");
-        assert_eq!(cut("01111110 0100 1111111 00 01111110"), "f8 v4 i7 v2 f8");
+    }
+
+    /// Ones are closing ones only directly behind a flag, and only where they are all of the body or void it.
+    #[test]
+    fn ones_that_close_nothing() {
+        assert_eq!(cut("01111110 0100 1111111 00 01111110"), "f8 v13 f8");
+        assert_eq!(cut("01111110 0 1111111 01111110"), "f8 v8 f8");
+        assert_eq!(cut("01111110 1111111 00 01111110"), "f8 i7 v2 f8");
+        assert_eq!(cut("01111110 1111111 0 11111111 01111110"), "f8 i7 v9 f8");
+        assert_eq!(cut("01111110 111 00 01111110"), "f8 v5 f8");
+        assert_eq!(cut("01111110 111 00 01111110|"), "f8 b5 f8");
+        assert_eq!(cut("11111111111 01111110"), "s11 f8");
+    }
+
+    #[test]
+    fn before_the_first_flag() {
+        assert_eq!(cut("0101 01111110 1"), "s4 f8 i1");
+        assert_eq!(cut("0000 0000"), "v8");
+        assert_eq!(cut("1111 1111"), "v8");
+        assert_eq!(cut("000"), "v3");
     }
 
     #[test]
     fn ends() {
         assert_eq!(cut(""), "");
         assert_eq!(cut("01111110 1111"), "f8 i4");
+        assert_eq!(cut("01111110 11111111"), "f8 i8");
         assert_eq!(cut("01111110 1111 0000000"), "f8 i4");
         assert_eq!(cut("01111110 1111 00000000"), "f8 v12");
         assert_eq!(cut("01111110 11111111 000"), "f8 i8");
+        assert_eq!(cut("01111110 11111111 0000000"), "f8 i8");
+        assert_eq!(cut("01111110 11111111 00000000"), "f8 i8 v8");
+        assert_eq!(cut("01111110 11111111 0100"), "f8 i8 v4");
         assert_eq!(cut("01111110 01011 000"), "f8 v8");
+        assert_eq!(cut("01111110 0101 1111111 000"), "f8 v14");
         assert_eq!(cut("01111110 000"), "f8");
-        assert_eq!(cut("000"), "");
-        assert_eq!(cut_with("01111110 1111 000", false), "f8 v7");
-        assert_eq!(cut_with("01111110 11111111 000", false), "f8 i8 v3");
-        assert_eq!(cut_with("01111110 1111", false), "f8 i4");
+        assert_eq!(cut("01111110 0000000"), "f8");
+        assert_eq!(cut("01111110 00000000"), "f8 v8");
+    }
+
+    /// A capture has no spare bits.
+    #[test]
+    fn ends_without_spare_bits() {
+        let cut = |text| cut_with(None, false, text);
+        assert_eq!(cut("01111110 1111"), "f8 i4");
+        assert_eq!(cut("01111110 1111 0"), "f8 v5");
+        assert_eq!(cut("01111110 11111111 000"), "f8 i8 v3");
+        assert_eq!(cut("01111110 000"), "f8 v3");
+    }
+
+    /// Closing ones end where their block does, which is the one that has the last bit of the flag.
+    #[test]
+    fn blocks() {
+        let ones = "01111110 1111 11111111 01111110";
+        assert_eq!(cut_in_blocks(20, ones), "f8 i12 f8");
+        assert_eq!(cut_in_blocks(12, ones), "f8 i4 v8 f8");
+        assert_eq!(cut_in_blocks(11, ones), "f8 i3 v9 f8");
+        assert_eq!(cut_in_blocks(8, ones), "f8 v12 f8");
+        assert_eq!(cut_in_blocks(7, ones), "f8 i6 v6 f8");
+        let three = "01111110 111 01111110";
+        assert_eq!(cut_in_blocks(11, three), "f8 i3 f8");
+        assert_eq!(cut_in_blocks(10, three), "f8 i2 v1 f8");
+        assert_eq!(cut_in_blocks(8, three), "f8 v3 f8");
+        assert_eq!(cut_in_blocks(10, "01111110 11111111"), "f8 i2 v6");
+        assert_eq!(cut_in_blocks(10, "01111110 11111111 000"), "f8 i2 v9");
+        assert_eq!(cut_in_blocks(16, "01111110 11111111 000"), "f8 i8");
+        assert_eq!(cut_in_blocks(8, "01111110 000"), "f8");
+        assert_eq!(cut_in_blocks(10, "01111110 111 000"), "f8 v6");
+        assert_eq!(cut_in_blocks(10, "01111110 111 00 01111110|"), "f8 b5 f8");
+    }
+
+    /// Bytes at once and bit by bit, in calls that end anywhere, cut the same.
+    #[test]
+    fn bytes_at_once() {
+        let mut state = 1u32;
+        let mut random = move || {
+            state = state.wrapping_mul(1_664_525).wrapping_add(1_013_904_223);
+            state >> 16
+        };
+        for trial in 0..400 {
+            // Bytes with many flags, ones and zeros in them, at all places.
+            let mut bytes: Vec<u8> = (0..100)
+                .map(|_| {
+                    [0x7E, 0xFF, 0x00, 0x3F, 0xF8, 0x1F, 0xFC, random() as u8]
+                        [random() as usize % 8]
+                })
+                .collect();
+            let start = random() as usize % 80;
+            bytes[start..start + 20].fill([0x00, 0xFF, 0x55][trial % 3]);
+            let block = [None, Some(64), Some(100)][random() as usize % 3];
+            let mut at_once = Extents::new(block, true);
+            let mut by_bits = Extents::new(block, true);
+            let mut from = 0;
+            while from < 800 {
+                let to = (from + 1 + u64::from(random() % 300)).min(800);
+                at_once.follow(&bytes, from, to, None);
+                (from..to).for_each(|bit| by_bits.follow(&bytes, bit, bit + 1, None));
+                assert_eq!(at_once.is_idle(), by_bits.is_idle());
+                from = to;
+            }
+            assert_eq!(letters(at_once), letters(by_bits), "{bytes:02X?}");
+        }
     }
 }

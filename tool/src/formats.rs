@@ -6,7 +6,7 @@ mod subframe;
 
 use std::fmt::{self, Display, Formatter};
 
-use crate::args::Args;
+use crate::args::{self, Args};
 use crate::error::Error;
 pub use capture::{Extraction, Words};
 pub use elsewhere::warn_of_no_frame;
@@ -85,7 +85,7 @@ impl Choice {
             (Some(_), _) => "--format",
             (None, Some(_)) => "--channel",
         };
-        Err(Error::Usage(format!("{given} does not go with {option}")))
+        Err(args::not_with(given, option))
     }
 }
 

@@ -4,6 +4,8 @@ use aes18::{write_line, Body, Framing, Packet, Refusal, LONGEST_LINE_FRAME};
 
 /// A flag, as a byte of the line and as eight user bits.
 pub const FLAG: u8 = 0x7E;
+/// Bits of a flag.
+pub const FLAG_BITS: u64 = 8;
 const ESCAPE: u8 = 0x7D;
 /// What an escaped byte is exclusive-ored with.
 const ESCAPED: u8 = 0x20;

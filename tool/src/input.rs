@@ -183,7 +183,7 @@ impl Input {
     }
 
     /// Ends the reading; an error where a capture ends inside a word.
-    pub fn end(self) -> Result<(), Error> {
+    pub fn end(&self) -> Result<(), Error> {
         match &self.extraction {
             Some(extraction) if self.ended => self.refuse_part(extraction.part()),
             _ => Ok(()),

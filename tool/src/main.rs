@@ -2,6 +2,7 @@
 
 #![forbid(unsafe_code)]
 
+mod account;
 mod args;
 mod circuits;
 mod decode;
@@ -11,9 +12,13 @@ mod error;
 mod extents;
 mod formats;
 mod frames;
+mod gaps;
 mod input;
+mod json;
 mod line;
+mod listener;
 mod output;
+mod pass;
 mod progress;
 mod quote;
 mod scan;
@@ -83,7 +88,8 @@ Options:
 
 A file of user bits has eight of them in a byte, the first in the lowest bit,
 unless --format says otherwise: bits-msb, or iec958 for a capture of ALSA's.
-Exit status: 0; 1 for a refusal or bad data; 2 for wrong usage.
+Exit status: 0; 1 for a refusal or bad data; 2 for wrong usage; 3 where
+--strict finds something at fault.
 ";
 
 const VERSION: &str = concat!("aes18 ", env!("CARGO_PKG_VERSION"), "\n");

@@ -11,7 +11,7 @@ pub fn as_text(bytes: &[u8]) -> Option<&str> {
 
 /// A printable character is one that Rust's debugging form leaves as it is, or a quote or backslash.
 fn is_text(c: char) -> bool {
-    matches!(c, '\n' | '\r' | '\t' | '"' | '\'' | '\\') || c.escape_debug().len() == 1
+    matches!(c, ' '..='~' | '\n' | '\r' | '\t') || c.escape_debug().len() == 1
 }
 
 /// Bytes as quoted text with escapes if they are text, or else as hex digits.
@@ -23,14 +23,18 @@ impl Display for Quoted<'_> {
             return Hex(self.0).fmt(f);
         };
         f.write_char('"')?;
-        for c in text.chars() {
-            match c {
-                '"' | '\\' => write!(f, "\\{c}")?,
-                '\n' => f.write_str("\\n")?,
-                '\t' => f.write_str("\\t")?,
-                '\r' => f.write_str("\\x0D")?,
-                _ => f.write_char(c)?,
-            }
+        for part in text.split_inclusive(['"', '\\', '\n', '\t', '\r']) {
+            let escape = match part.as_bytes().last() {
+                Some(b'"') => "\\\"",
+                Some(b'\\') => "\\\\",
+                Some(b'\n') => "\\n",
+                Some(b'\t') => "\\t",
+                Some(b'\r') => "\\x0D",
+                _ => "",
+            };
+            let plain = part.len() - usize::from(!escape.is_empty());
+            f.write_str(&part[..plain])?;
+            f.write_str(escape)?;
         }
         f.write_char('"')
     }

@@ -2,7 +2,7 @@
 
 mod ink;
 mod layout;
-mod options;
+pub mod options;
 mod paint;
 mod report;
 mod svg;
@@ -13,18 +13,15 @@ mod words;
 use std::ffi::OsStr;
 use std::io::{self, BufWriter, Write};
 
-use aes18::Notice;
-
 use crate::args::Args;
-use crate::circuits;
 use crate::draft::Draft;
 use crate::error::Error;
-use crate::extents::{Kind, Pass, Stretch};
 use crate::formats;
-use crate::input::{Content, Input};
+use crate::input::{Chunk, Content, Input};
 use crate::output::{folded, say};
+use crate::pass::Pass;
 use crate::progress::Progress;
-use layout::Part;
+use layout::{Layout, Part};
 use options::Options;
 use svg::Svg;
 use tally::Tally;
@@ -43,8 +40,8 @@ Usage: aes18 show [OPTIONS] BITS
                      without this option; bits-msb: the first in the highest
                      bit; iec958: a capture of ALSA's IEC958_SUBFRAME_LE words
   --channel CHANNEL  left or right, the channel of a capture; left without it
-  --block N          a row for each block of N bits, 256 to 27000; without it
-                     rows of 1000 bits
+  --block N          a row for each block of N bits, 256 to 27000, where closing
+                     ones end; without it rows of 1000 bits
   --from BIT         show the bits from this one on
   --to BIT           show the bits before this one
   --svg FILE         write the picture as SVG to FILE, or - for the standard
@@ -54,6 +51,9 @@ Usage: aes18 show [OPTIONS] BITS
   --color WHEN       always, never or auto: colours on a terminal, unless
                      NO_COLOR is set
   --all              list all places that went wrong, not just the first 40
+  --strict           exit status 3 if anything that is shown is lost, spoilt,
+                     malformed, orphaned, wrong, dropped, open at the end, known
+                     only modulo 8, or in no frame
   -q, --quiet        say nothing but errors on the standard error
   -h, --help         print this help
 
@@ -68,8 +68,8 @@ A row begins with its block's number, or that of its first bit. Each character
 behind it stands for as many bits as the first line says, and shows the most
 important of what lies in them:
   !        a spoilt body
-  ^        packets lost before the frame that begins here: how many, the line
-           below says
+  ^        packets lost before the frame that begins here, or a loss that is
+           known only modulo 8: how many, the line below says
   ~        bits in no frame: voided by seven ones, too few for one, or not
            between two flags
   M        a malformed packet
@@ -82,14 +82,18 @@ Behind a packet's first character = shows how far it goes, or x where it is an
 orphan or wrong. Rows that show no other frame than the row before them, and
 look like it, are only counted.
 
-Behind the picture stand the figures of each kind and the places that went
-wrong, with their bits: a body's bits are those between its flags. A circuit's
-figures are its frames, what became of them, the bytes of its whole messages and
-its packets lost; whole, bytes, orphan and lost stop at 4,294,967,295, which
-stands for that many or more. Bits and blocks are numbered from 0. With --from
-and --to the pass is still read from its first bit; figures and places are of
-what is shown. Up to seven zeros at the end, behind closing ones or a flag, are
-the last byte's spare bits and are not shown.
+Behind the picture stand the figures of each kind, those of the circuits and the
+places that went wrong, with their bits, in the words of aes18 decode, whose
+help says what they mean. A body's bits are those between its flags. The bits in
+no frame are told as stretches, with the spoilt ones and the flags that border
+nothing else. Whole messages, their bytes, orphans and lost packets stop at
+4,294,967,295, which stands for that many or more. Bits and blocks are numbered
+from 0. With --from and --to the pass is still read from its first bit; figures
+and places are of what is shown. Up to seven zeros at the end, behind closing
+ones or a flag, are the last byte's spare bits and are not shown.
+
+No trace is left by bits that are missing altogether, by dropouts to flags and,
+without --block, by dropouts to ones behind a flag.
 
 With --svg the picture goes to FILE in place of the terminal; with - nothing but
 the picture is written to the standard output. It says what a frame is when
@@ -100,7 +104,8 @@ Where no frame passes in the whole file, a warning on the standard error says
 how many do in other formats and channels. Where the standard error is a
 terminal, and no picture goes to one, a bar shows how far a long reading has
 come.
-Exit status: 0; 1 for a file that cannot be read or written; 2 for wrong usage.
+Exit status: 0; 1 for a file that cannot be read or written; 2 for wrong usage;
+3 where --strict finds something, after all is told.
 ";
 
 /// Runs the subcommand.
@@ -126,7 +131,8 @@ fn show_in_terminal(options: &Options) -> Result<(), Error> {
     picture.end().map_err(failed)?;
     report::write(&mut picture.out, options, &tally).map_err(failed)?;
     picture.out.flush().map_err(failed)?;
-    input.end()
+    input.end()?;
+    judge(options, &input, &tally)
 }
 
 fn write_svg(options: &Options, file: &OsStr) -> Result<(), Error> {
@@ -147,7 +153,15 @@ fn write_svg(options: &Options, file: &OsStr) -> Result<(), Error> {
         (true, None) => {}
         (false, _) => report_svg(options, &tally, &name, length)?,
     }
-    Ok(())
+    judge(options, &input, &tally)
+}
+
+/// What `--strict` says of what is shown.
+fn judge(options: &Options, input: &Input, tally: &Tally) -> Result<(), Error> {
+    match options.strict {
+        true => Error::strict(input.name(), tally.account.faults()),
+        false => Ok(()),
+    }
 }
 
 /// Writes which circuits are listened to, where none are listed.
@@ -173,35 +187,27 @@ fn draw(
     options: &Options,
     input: &mut Input,
     mut progress: Progress,
-    mut draw: impl FnMut(&Part<'_>) -> Result<(), Error>,
+    draw: impl FnMut(&Part<'_>) -> Result<(), Error>,
 ) -> Result<Tally, Error> {
     let layout = &options.layout;
-    let mut pass = Pass::new(
-        circuits::receiver(&options.circuits)?,
-        options.formats.spare(),
-    );
-    let mut tally = Tally::default();
-    let mut passed = false;
-    let mut ended = false;
-    while !ended {
-        let stretches = match input.chunk()? {
+    let block = layout.blocks.then_some(layout.row);
+    let mut drawing = Drawing {
+        layout,
+        pass: Pass::new(&options.circuits, block, options.formats.spare())?,
+        tally: Tally::new(&options.circuits, options.places),
+        draw,
+    };
+    while !drawing.ended() {
+        match input.chunk()? {
             Some(chunk) => {
                 progress.add(chunk.read);
-                pass.read(chunk.bytes, chunk.bits)?
+                drawing.read(&chunk)?;
             }
-            None => pass.end(),
-        };
-        passed |= stretches.iter().any(passes);
-        for stretch in stretches.iter().filter(|stretch| layout.shows(stretch)) {
-            if let Kind::Body(notice) = &stretch.kind {
-                circuits::check_listed(&options.circuits, notice, input.name())?;
-            }
-            tally.add(stretch, options.places);
-            layout.parts(stretch).try_for_each(|part| draw(&part))?;
+            None => drawing.end()?,
         }
-        ended = pass.ended() || tally.end >= layout.to;
     }
-    if pass.ended() && !passed {
+    let Drawing { pass, tally, .. } = drawing;
+    if pass.ended() && !pass.passed() {
         formats::warn_of_no_frame(&options.bits, input, options.formats)?;
     }
     match tally.end == 0 && layout.from > 0 {
@@ -214,7 +220,57 @@ fn draw(
     }
 }
 
-/// Whether a stretch is a body that passes.
-fn passes(stretch: &Stretch) -> bool {
-    matches!(stretch.kind, Kind::Body(notice) if notice != Notice::Spoilt)
+/// A pass being drawn.
+struct Drawing<'a, D> {
+    layout: &'a Layout,
+    pass: Pass,
+    tally: Tally,
+    draw: D,
+}
+
+impl<D: FnMut(&Part<'_>) -> Result<(), Error>> Drawing<'_, D> {
+    /// Reads the next chunk.
+    fn read(&mut self, chunk: &Chunk<'_>) -> Result<(), Error> {
+        let mut from = 0;
+        while from < chunk.bits {
+            from += self.pass.read(chunk.bytes, from, chunk.bits)?.bits;
+            self.add()?;
+        }
+        Ok(())
+    }
+
+    /// Ends the pass. The messages that are open then are told where its end is shown.
+    fn end(&mut self) -> Result<(), Error> {
+        self.pass.end();
+        self.add()?;
+        if self.tally.end < self.layout.to {
+            self.tally.account.unfinished = self.pass.unfinished();
+        }
+        Ok(())
+    }
+
+    /// Counts and draws what the last call of the pass told, as far as it is shown.
+    fn add(&mut self) -> Result<(), Error> {
+        let layout = self.layout;
+        for stretch in self.pass.stretches() {
+            if layout.shows(stretch.from, stretch.to) {
+                self.tally.add(stretch);
+                layout
+                    .parts(stretch)
+                    .try_for_each(|part| (self.draw)(&part))?;
+            }
+        }
+        for gap in self.pass.gaps() {
+            if layout.shows(gap.from, gap.to) {
+                self.tally.add_gap(&gap);
+            }
+        }
+        Ok(())
+    }
+
+    /// Whether all that is shown is told.
+    fn ended(&self) -> bool {
+        let to = self.layout.to;
+        self.pass.ended() || self.tally.end >= to && !self.pass.is_open_before(to)
+    }
 }

@@ -188,29 +188,43 @@ pass: blocks of 256 bits, 4 to a character
                          ^1 lost of circuit 1
        4 ..--------------------------------------------------------------
          ... 2 rows like this
-       7 ..~~~~~~~~---~~~~~~~~~~~~~..-------------------------------..^0=
+       7 ..~~~~~~~~~~~~~~~~~~~~~~~~..-------------------------------..^0=
                                                    1 lost of circuit 0^
        8 =====================..------------------------------------
 
-                     frames copies begun  held whole   bytes orphan wrong  lost
-0  circuit 0 (01)         3      0     0     0     3      17      0     0     1
-1  circuit 1 (02:07)      2      0     1     0     0       0      1     0     1
-S  system packets         1
-E  elsewhere              0
-M  malformed              0
-!  spoilt                 1
-~  bits in no frame      81
-.  flags                 17
--  closing ones        1247
-^  packets lost before the frame that begins here
+0  circuit 0 (01)
+1  circuit 1 (02:07)
+S  system packets                     1
+E  elsewhere                          0
+M  malformed                          0
+!  spoilt                             1
+~  bits in no frame                 264
+~  before the first flag              0
+.  flags                             17
+-  closing ones                    1232
+^  packets lost before the frame that begins here, or known only modulo 8
 =  the frame goes on; x where it is an orphan or wrong
 
+circuit                    01            02:07
+packets                     3                2
+copies                      0                0
+lost                        1                1
+modulo 8                    0                0
+begun                       0                1
+held                        0                0
+messages                    3                0
+bytes                      17                0
+dropped                     0                1
+orphans                     0                1
+wrong                       0                0
+
 5 places went wrong:
-  block 2, bits 520 to 687: spoilt
-  block 3, bits 833 to 993: circuit 1 (02:07), 1 packet lost before it; orphan: no message is open
-  block 7, bits 1800 to 1831: in no frame
-  block 7, bits 1847 to 1895: in no frame
-  block 7, bits 2036 to 2131: circuit 0 (01), 1 packet lost before it; completes a message of 7 bytes
+  block 2, bits 520 to 687: in no frame, 168 bits
+  block 2, bits 520 to 687: Spoilt
+  block 3, bits 833 to 993: 02:07, loss 1, message dropped, Orphan
+  block 7, bits 1800 to 1895: in no frame, 96 bits
+  block 7, bits 2036 to 2131: 01, loss 1, Whole, length 7
+No trace is left by bits missing altogether and dropouts to flags.
 ";
 
 const BLOCKS: [&str; 4] = ["--circuits", "01,02:07", "--block", "256"];
@@ -244,7 +258,10 @@ fn a_pass_that_came_whole() {
     file(&folder, &blocks());
     let arguments = [&BLOCKS[..], &["--width", "73", "pass"]].concat();
     let text = printed(&folder, &arguments);
-    assert!(text.ends_with("\n\nNo place went wrong.\n"), "{text}");
+    assert!(
+        text.contains("\n\nNo place went wrong.\nNo trace "),
+        "{text}"
+    );
     let rows: String = text
         .lines()
         .skip(2)
@@ -272,7 +289,7 @@ fn every_kind() {
     let text = printed(&folder, &["--circuits", "01", "--width", "100", "pass"]);
     assert_eq!(text, KINDS);
     let svg = printed(&folder, &["--circuits", "01", "--svg", "-", "pass"]);
-    let legend = "frames 7, copies 2, whole 1, bytes 6, orphan 1, wrong 1";
+    let legend = "packets 5, copies 2, begun 1, held 1, messages 1, bytes 6, orphans 1, wrong 1";
     assert!(svg.contains(&format!(">circuit 0 (01): {legend}</text>")));
 }
 
@@ -281,22 +298,38 @@ pass: rows of 1000 bits, 11 to a character
      bit
        0 0xxxxxxx0=======0========0========0xxxxx0===============0==============S====E====M========.
 
-                     frames copies begun  held whole   bytes orphan wrong  lost
-0  circuit 0 (01)         7      2     1     1     1       6      1     1     0
-S  system packets         1
-E  elsewhere              1
-M  malformed              1
-!  spoilt                 0
-~  bits in no frame       0
-.  flags                 11
--  closing ones           0
-^  packets lost before the frame that begins here
+0  circuit 0 (01)
+S  system packets                     1
+E  elsewhere                          1
+M  malformed                          1
+!  spoilt                             0
+~  bits in no frame                   0
+~  before the first flag              0
+.  flags                             11
+-  closing ones                       0
+^  packets lost before the frame that begins here, or known only modulo 8
 =  the frame goes on; x where it is an orphan or wrong
 
+circuit                    01
+packets                     5
+copies                      2
+lost                        0
+modulo 8                    0
+begun                       1
+held                        1
+messages                    1
+bytes                       6
+dropped                     0
+orphans                     1
+wrong                       1
+
 3 places went wrong:
-  bits 8 to 79: circuit 0 (01), wrong in length
-  bits 376 to 439: circuit 0 (01), orphan: no message is open
-  bits 898 to 986: malformed packet
+  bits 8 to 79: 01, loss 0, Wrong
+  bits 376 to 439: 01, loss 0, Orphan
+  bits 898 to 986: Malformed
+01: open at the end, 30 of 32 bytes, begun by the frame before bit 616
+No trace is left by bits missing altogether, dropouts to flags and,
+without --block, dropouts to ones behind a flag.
 ";
 
 #[test]
@@ -318,7 +351,8 @@ fn a_range() {
         "       3 ..0============.^1xxxxxxxxxxxxxxxxxxxxxxxxxxxxxxxxxxxxxxx."
     );
     assert_eq!(note, "                         ^1 lost of circuit 1");
-    assert!(text.contains("\n2 places went wrong:\n  block 2, bits 520 to 687: spoilt\n"));
+    let places = "\n3 places went wrong:\n  block 2, bits 520 to 687: in no frame, 168 bits\n";
+    assert!(text.contains(places), "{text}");
 }
 
 #[test]
@@ -330,14 +364,15 @@ fn many_places() {
     }
     file(&folder, &bits);
     let text = printed_without_frames(&folder, &["--circuits", "01", "pass"]);
-    assert!(text.contains("\n50 places went wrong:\n"), "{text}");
+    let first = "\n51 places went wrong:\n  bits 0 to 2007: in no frame, 2008 bits\n  bits 8 to 39: Spoilt\n";
+    let last = "\n  bits 1528 to 1559: Spoilt\n  and 11 more (--all lists them)\nNo trace ";
+    assert!(text.contains(first) && text.contains(last), "{text}");
+    let text = printed_without_frames(&folder, &["--circuits", "01", "--all", "pass"]);
     assert!(
-        text.ends_with("\n  bits 1568 to 1599: spoilt\n  and 10 more (--all lists them)\n"),
+        text.contains("\n  bits 1968 to 1999: Spoilt\nNo trace "),
         "{text}"
     );
-    let text = printed_without_frames(&folder, &["--circuits", "01", "--all", "pass"]);
-    assert!(text.ends_with("\n  bits 1968 to 1999: spoilt\n"), "{text}");
-    assert_eq!(text.matches(": spoilt\n").count(), 50);
+    assert_eq!(text.matches(": Spoilt\n").count(), 50);
 }
 
 /// The rows of a long body are folded.
@@ -402,18 +437,20 @@ fn svg() {
     };
     // The last frame of circuit 0 lies in two rows.
     assert_eq!((bars("c0"), bars("c1"), bars("c1 unused")), (4, 1, 1));
-    assert_eq!((bars("system"), bars("spoilt"), bars("void")), (1, 1, 2));
+    assert_eq!((bars("system"), bars("spoilt"), bars("void")), (1, 1, 1));
     assert_eq!(
         svg.matches("<path class=\"loss\" d=").count(),
         3,
         "two marks and the legend's"
     );
     assert_eq!(svg.matches("<g ").count(), 9, "nine rows");
-    let title = "<title>block 2, bits 520 to 687: spoilt</title>";
+    let title = "<title>block 2, bits 520 to 687: Spoilt</title>";
     assert_eq!(svg.matches(title).count(), 1);
     assert!(svg.contains(">1 lost of 02:07</text>"));
-    assert!(svg.contains(">circuit 0 (01): frames 3, whole 3, bytes 17, lost 1</text>"));
-    assert!(svg.contains(">circuit 1 (02:07): frames 2, orphan 1, lost 1</text>"));
+    assert!(svg.contains(">circuit 0 (01): packets 3, lost 1, messages 3, bytes 17</text>"));
+    assert!(
+        svg.contains(">circuit 1 (02:07): packets 2, lost 1, begun 1, dropped 1, orphans 1</text>")
+    );
     assert_eq!(
         printed(&folder, &[&BLOCKS[..], &["--svg", "-", "pass"]].concat()),
         svg
@@ -553,7 +590,10 @@ fn no_circuit_to_find() {
     let text = printed(&folder, &["pass"]);
     let heard = "listening to no circuit: no packet of one passes\npass: ";
     assert!(text.starts_with(heard), "{text}");
-    assert!(text.contains("\nS  system packets         1\n"), "{text}");
+    assert!(
+        text.contains("\nS  system packets                     1\n"),
+        "{text}"
+    );
     assert!(!text.contains("circuit 0"), "{text}");
 }
 
@@ -643,8 +683,9 @@ fn help() {
         "--width",
         "--color",
         "--all",
+        "--strict",
     ] {
         assert!(text.contains(&format!("\n  {option} ")), "{option}");
     }
-    assert!(text.contains("4,294,967,295, which\nstands for that many or more"));
+    assert!(text.contains("\n4,294,967,295, which stands for that many or more"));
 }

@@ -1,134 +1,180 @@
 //! One JSON object a line, for programs.
 
-use std::fmt::{self, Display, Formatter, Write as _};
-use std::io::{self, Write};
+use std::io;
 
-use aes18::{Figures, Notice};
+use aes18::{Circuit, Figures, Notice};
+use serde::ser::{Serialize, SerializeMap, Serializer};
 
-use super::counts::{Counts, Packets};
-use super::format::{fate_name, Format, Told, Unit};
-use super::line::Rest;
+use super::format::{Format, Sum, Told};
+use crate::account::{fate_name, figures, untraced, Account, Heard, Packets, Unfinished, Unit};
+use crate::gaps::Gap;
+use crate::json::{line, with_unit, GapObject, Only};
 use crate::quote::{as_text, Hex};
 use crate::scan::Listening;
 
-/// An object for each notice, then one with the counts.
+/// An object for each notice and each stretch in no frame, then one with the counts.
 pub struct Json;
 
 impl Format for Json {
-    fn listening(&self, out: &mut dyn Write, listening: &Listening) -> io::Result<()> {
-        writeln!(out, "{}", listening.json())
+    fn listening(&self, out: &mut Vec<u8>, listening: &Listening) -> io::Result<()> {
+        line(out, &listening.json())
     }
 
-    fn notice(&self, out: &mut dyn Write, told: &Told<'_>) -> io::Result<()> {
-        write!(out, r#"{{"{}":{},"notice":"#, told.unit, told.place)?;
-        match told.notice {
-            Notice::End => write!(out, r#""End""#)?,
-            Notice::Spoilt => write!(out, r#""Spoilt""#)?,
-            Notice::Malformed => write!(out, r#""Malformed""#)?,
-            Notice::System { enable, code, .. } => {
-                write!(out, r#""System","enable":{enable},"code":{code}"#)?
-            }
-            Notice::Elsewhere => match told.elsewhere {
-                Some(circuit) => write!(out, r#""Elsewhere","circuit":"{circuit}""#)?,
-                None => write!(out, r#""Elsewhere""#)?,
-            },
-            Notice::Circuit { number, loss, fate } => write!(
-                out,
-                r#""Circuit","number":{number},"circuit":"{}","loss":{loss},"fate":"{}""#,
-                told.circuits[number],
-                fate_name(fate)
-            )?,
-        }
+    fn notice(&self, out: &mut Vec<u8>, told: &Told<'_>) -> io::Result<()> {
+        line(out, &NoticeObject(told))
+    }
+
+    fn gap(&self, out: &mut Vec<u8>, unit: Unit, gap: &Gap) -> io::Result<()> {
+        line(out, &Only("gap", GapObject(unit, gap)))
+    }
+
+    fn sum(&self, out: &mut Vec<u8>, sum: &Sum<'_>) -> io::Result<()> {
+        line(out, &Only("totals", SumObject(sum)))
+    }
+}
+
+/// A notice with its place, and the message or the information.
+struct NoticeObject<'a>(&'a Told<'a>);
+
+impl Serialize for NoticeObject<'_> {
+    fn serialize<S: Serializer>(&self, serializer: S) -> Result<S::Ok, S::Error> {
+        let told = self.0;
+        let mut members = serializer.serialize_map(None)?;
+        members.serialize_entry(told.unit.name(), &told.place)?;
+        notice(&mut members, told)?;
         if let Some(bytes) = told.bytes {
-            write_bytes(out, bytes)?;
+            members.serialize_entry("length", &bytes.len())?;
+            members.serialize_entry("hex", &Hex(bytes).to_string())?;
+            if let Some(text) = as_text(bytes) {
+                members.serialize_entry("text", text)?;
+            }
         }
         if let Some(file) = told.file {
-            write!(out, r#","file":{}"#, Str(file))?;
+            members.serialize_entry("file", file)?;
         }
-        writeln!(out, "}}")
+        members.end()
     }
+}
 
-    fn counts(&self, out: &mut dyn Write, counts: &Counts) -> io::Result<()> {
-        write!(out, r#"{{"totals":{{"{}s":{}"#, counts.unit, counts.read)?;
-        if counts.unit == Unit::Byte {
-            let Rest { before, behind, .. } = counts.rest;
-            write!(out, r#","before":{before},"behind":{behind}"#)?;
+/// The members of a notice.
+fn notice<M: SerializeMap>(members: &mut M, told: &Told<'_>) -> Result<(), M::Error> {
+    let mut name = |name: &str| members.serialize_entry("notice", name);
+    match told.heard.notice {
+        Notice::End => name("End"),
+        Notice::Spoilt => name("Spoilt"),
+        Notice::Malformed => name("Malformed"),
+        Notice::System { enable, code, .. } => {
+            name("System")?;
+            members.serialize_entry("enable", &enable)?;
+            members.serialize_entry("code", &code)
         }
-        let (damaged, number) = counts.damaged();
-        write!(
-            out,
-            r#","system":{},"{}":{number},"malformed":{},"elsewhere":{},"circuits":["#,
-            counts.system,
-            damaged.to_ascii_lowercase(),
-            counts.malformed,
-            counts.elsewhere
-        )?;
-        for (number, (packets, figures)) in counts.circuits().enumerate() {
-            if number > 0 {
-                write!(out, ",")?;
+        Notice::Elsewhere => {
+            name("Elsewhere")?;
+            match told.heard.elsewhere {
+                Some(circuit) => members.serialize_entry("circuit", &circuit.to_string()),
+                None => Ok(()),
             }
-            write_circuit(out, number, packets, figures)?;
         }
-        writeln!(out, "]}}}}")
+        Notice::Circuit { number, loss, fate } => {
+            name("Circuit")?;
+            circuit(members, number, told.circuits[number])?;
+            members.serialize_entry("loss", &loss)?;
+            doubts(members, told.unit, told.heard)?;
+            members.serialize_entry("fate", fate_name(fate))
+        }
     }
 }
 
-/// The members for a message or information: its length, its bytes as hex and, if they are text, as a string.
-fn write_bytes(out: &mut dyn Write, bytes: &[u8]) -> io::Result<()> {
-    write!(out, r#","length":{},"hex":"{}""#, bytes.len(), Hex(bytes))?;
-    match as_text(bytes) {
-        Some(text) => write!(out, r#","text":{}"#, Str(text)),
-        None => Ok(()),
-    }
-}
-
-/// A circuit's counts as an object.
-fn write_circuit(
-    out: &mut dyn Write,
+/// The members that name a circuit.
+fn circuit<M: SerializeMap>(
+    members: &mut M,
     number: usize,
-    packets: &Packets,
-    figures: Figures,
-) -> io::Result<()> {
-    write!(
-        out,
-        r#"{{"number":{number},"circuit":"{}","packets":{},"copies":{},"lost":{},"messages":{},"bytes":{},"orphans":{},"wrong":{}}}"#,
-        packets.circuit,
-        packets.came,
-        packets.copies,
-        figures.lost,
-        figures.messages,
-        figures.bytes,
-        figures.orphaned,
-        packets.wrong
-    )
+    circuit: Circuit,
+) -> Result<(), M::Error> {
+    members.serialize_entry("number", &number)?;
+    members.serialize_entry("circuit", &circuit.to_string())
 }
 
-/// A text as a JSON string.
-struct Str<'a>(&'a str);
-
-impl Display for Str<'_> {
-    fn fmt(&self, f: &mut Formatter<'_>) -> fmt::Result {
-        f.write_char('"')?;
-        for c in self.0.chars() {
-            match c {
-                '"' | '\\' => write!(f, "\\{c}")?,
-                '\0'..='\x1f' => write!(f, "\\u{:04x}", u32::from(c))?,
-                _ => f.write_char(c)?,
-            }
-        }
-        f.write_char('"')
+/// What is said of a loss.
+fn doubts<M: SerializeMap>(members: &mut M, unit: Unit, heard: &Heard) -> Result<(), M::Error> {
+    if let Some(free) = heard.free {
+        members.serialize_entry("modulo8", &true)?;
+        members.serialize_entry(&with_unit("gap_", unit), &free)?;
+    }
+    match heard.dropped {
+        true => members.serialize_entry("dropped", &true),
+        false => Ok(()),
     }
 }
 
-#[cfg(test)]
-mod tests {
-    use super::*;
+/// The counts.
+struct SumObject<'a>(&'a Sum<'a>);
 
-    #[test]
-    fn strings_are_escaped() {
-        assert_eq!(
-            Str("a\"\\/\n\u{1}\u{b0}").to_string(),
-            "\"a\\\"\\\\/\\u000a\\u0001\u{b0}\""
-        );
+impl Serialize for SumObject<'_> {
+    fn serialize<S: Serializer>(&self, serializer: S) -> Result<S::Ok, S::Error> {
+        let sum = self.0;
+        let account = sum.account;
+        let mut members = serializer.serialize_map(None)?;
+        members.serialize_entry(&with_unit("", account.unit), &sum.read)?;
+        members.serialize_entry("before", &account.before)?;
+        if let Some(rest) = sum.rest {
+            members.serialize_entry("behind", &rest.behind)?;
+        }
+        members.serialize_entry("gaps", &account.gaps)?;
+        members.serialize_entry(&with_unit("gap_", account.unit), &account.free)?;
+        members.serialize_entry("modulo8", &account.modulo())?;
+        members.serialize_entry("system", &account.system)?;
+        let (damaged, number) = sum.damaged();
+        members.serialize_entry(&damaged.to_ascii_lowercase(), &number)?;
+        members.serialize_entry("malformed", &account.malformed)?;
+        members.serialize_entry("elsewhere", &account.elsewhere)?;
+        let circuits = account.circuits().enumerate();
+        let circuits = circuits.map(|(number, (packets, figures))| CircuitObject {
+            number,
+            packets,
+            figures,
+        });
+        members.serialize_entry("circuits", &circuits.collect::<Vec<_>>())?;
+        let open = account
+            .unfinished
+            .iter()
+            .map(|message| OpenObject(account, message));
+        members.serialize_entry("open", &open.collect::<Vec<_>>())?;
+        members.serialize_entry("untraced", &untraced(account.unit, sum.block))?;
+        members.end()
+    }
+}
+
+/// A circuit's counts.
+struct CircuitObject<'a> {
+    number: usize,
+    packets: &'a Packets,
+    figures: Figures,
+}
+
+impl Serialize for CircuitObject<'_> {
+    fn serialize<S: Serializer>(&self, serializer: S) -> Result<S::Ok, S::Error> {
+        let mut members = serializer.serialize_map(None)?;
+        circuit(&mut members, self.number, self.packets.circuit)?;
+        for (name, figure) in figures(self.packets, self.figures) {
+            members.serialize_entry(&name.replace(' ', ""), &figure)?;
+        }
+        members.end()
+    }
+}
+
+/// A message that is open at the end.
+struct OpenObject<'a>(&'a Account, &'a Unfinished);
+
+impl Serialize for OpenObject<'_> {
+    fn serialize<S: Serializer>(&self, serializer: S) -> Result<S::Ok, S::Error> {
+        let OpenObject(account, message) = *self;
+        let mut members = serializer.serialize_map(None)?;
+        let number = message.number;
+        circuit(&mut members, number, account.circuit(number))?;
+        members.serialize_entry("received", &message.open.received)?;
+        members.serialize_entry("length", &message.open.length)?;
+        members.serialize_entry(account.unit.name(), &message.begun)?;
+        members.end()
     }
 }

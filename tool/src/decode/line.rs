@@ -2,62 +2,79 @@
 
 use aes18::{LineRead, LineReader};
 
+use super::format::Rest;
 use crate::frames::FLAG;
+use crate::gaps::{Gap, Gaps};
 
 /// The library's reader, and what gave it no packet.
 #[derive(Default)]
 pub struct Line {
     reader: LineReader,
+    /// Bytes read.
+    at: u64,
+    /// The first byte behind the last flag; 0 where there is none.
+    from: u64,
     /// Whether a flag was read.
     inside: bool,
-    /// Bytes before the first flag, and bytes behind the last.
-    before: u64,
-    behind: u64,
-    /// How often bytes stood between two flags, and how many of them were packets.
-    closed: u64,
-    packets: u64,
-}
-
-/// What gave no packet.
-#[derive(Clone, Copy, Debug, Default, PartialEq, Eq)]
-pub struct Rest {
-    /// Bytes before the first flag: all where there is none.
-    pub before: u64,
-    /// How often bytes stood between two flags that gave no packet.
-    pub dropped: u64,
-    /// Bytes behind the last flag.
-    pub behind: u64,
+    dropped: u64,
+    gaps: Gaps,
 }
 
 impl Line {
     /// Reads up to behind the next packet, or to the end of the bytes.
     pub fn read(&mut self, bytes: &[u8]) -> LineRead {
         let read = self.reader.read(bytes);
-        bytes[..read.bytes]
-            .iter()
-            .for_each(|byte| self.follow(*byte));
-        self.packets += u64::from(read.packet.is_some());
+        let bytes = &bytes[..read.bytes];
+        for (place, _) in bytes.iter().enumerate().filter(|(_, byte)| **byte == FLAG) {
+            let last = place + 1 == bytes.len();
+            self.flag(self.at + place as u64, read.packet.is_some() && last);
+        }
+        self.at += bytes.len() as u64;
         read
+    }
+
+    /// A flag at that byte, which closes a packet's frame or not.
+    fn flag(&mut self, at: u64, packet: bool) {
+        if packet {
+            self.gaps.bound();
+        } else if self.from < at {
+            match self.inside {
+                true => self.gaps.free(self.from, at),
+                false => self.gaps.before(self.from, at),
+            }
+            self.dropped += u64::from(self.inside);
+        }
+        self.gaps.flag(at, at + 1);
+        self.from = at + 1;
+        self.inside = true;
+    }
+
+    /// Ends the reading, when all bytes are read.
+    pub fn end(&mut self) {
+        if self.from < self.at {
+            self.gaps.free(self.from, self.at);
+        }
+        self.gaps.end();
+    }
+
+    /// The stretches in no frame known since this was asked last.
+    pub fn gaps(&mut self) -> Vec<Gap> {
+        self.gaps.take()
+    }
+
+    /// How many bytes stand in no frame by now, without those before the first flag.
+    pub fn free(&self) -> u64 {
+        self.gaps.total()
     }
 
     /// What gave no packet in the bytes read so far.
     pub fn rest(&self) -> Rest {
         Rest {
-            before: self.before,
-            dropped: self.closed - self.packets,
-            behind: self.behind,
-        }
-    }
-
-    fn follow(&mut self, byte: u8) {
-        if byte == FLAG {
-            self.closed += u64::from(self.behind > 0);
-            self.inside = true;
-            self.behind = 0;
-        } else if self.inside {
-            self.behind += 1;
-        } else {
-            self.before += 1;
+            dropped: self.dropped,
+            behind: match self.inside {
+                true => self.at - self.from,
+                false => 0,
+            },
         }
     }
 }
@@ -67,8 +84,9 @@ mod tests {
     use super::*;
     use crate::frames::on_line;
 
-    /// Reads a line given in parts: its packets, and what gave none, as bytes before the first flag, times dropped and bytes behind the last flag.
-    fn read(parts: &[&[u8]]) -> (Vec<Vec<u8>>, [u64; 3]) {
+    /// Reads a line given in parts: its packets, how often bytes between two flags were dropped, how many stand behind the last flag, and the stretches
+    /// in no frame, of which the one before the first flag has `b` in front.
+    fn read(parts: &[&[u8]]) -> (Vec<Vec<u8>>, [u64; 2], String) {
         let mut line = Line::default();
         let mut packets = Vec::new();
         for part in parts {
@@ -83,29 +101,38 @@ mod tests {
             }
         }
         let rest = line.rest();
-        (packets, [rest.before, rest.dropped, rest.behind])
+        line.end();
+        let gaps = line.gaps();
+        let gaps = gaps.iter().map(|gap| {
+            let first = if gap.first { "b" } else { "" };
+            format!("{first}{}..{}", gap.from, gap.to)
+        });
+        let gaps = gaps.collect::<Vec<_>>().join(" ");
+        (packets, [rest.dropped, rest.behind], gaps)
     }
 
     /// Bytes before the first flag and none between two are nothing that is dropped, nor are those behind the last flag.
     #[test]
     fn what_gives_no_packet() {
-        let cases: [(&[u8], [u64; 3]); 13] = [
-            (b"", [0, 0, 0]),
-            (b"before", [6, 0, 0]),
-            (b"before~", [6, 0, 0]),
-            (b"before~}behind", [6, 0, 7]),
-            (b"~~~~", [0, 0, 0]),
-            (b"~behind", [0, 0, 6]),
-            (b"~~behind}", [0, 0, 7]),
-            (b"~no FCS~", [0, 1, 0]),
-            (b"~no FCS~~~none~", [0, 2, 0]),
-            (b"}~no FCS~behind", [1, 1, 6]),
-            (b"~a flag}~", [0, 1, 0]),
-            (b"~}~", [0, 1, 0]),
-            (b"~\0\0~", [0, 1, 0]),
+        let cases: [(&[u8], [u64; 2], &str); 14] = [
+            (b"", [0, 0], ""),
+            (b"before", [0, 0], "0..6"),
+            (b"before~", [0, 0], "b0..6 6..7"),
+            (b"before~}behind", [0, 7], "b0..6 6..14"),
+            (b"before~~", [0, 0], "b0..6"),
+            (b"~~~~", [0, 0], ""),
+            (b"~behind", [0, 6], "0..7"),
+            (b"~~behind}", [0, 7], "2..9"),
+            (b"~no FCS~", [1, 0], "0..8"),
+            (b"~no FCS~~~none~", [2, 0], "0..7 10..15"),
+            (b"}~no FCS~behind", [1, 6], "b0..1 1..15"),
+            (b"~a flag}~", [1, 0], "0..9"),
+            (b"~}~", [1, 0], "0..3"),
+            (b"~\0\0~", [1, 0], "0..4"),
         ];
-        for (line, rest) in cases {
-            assert_eq!(read(&[line]), (Vec::new(), rest), "{line:?}");
+        for (line, rest, gaps) in cases {
+            let expected = (Vec::new(), rest, gaps.to_string());
+            assert_eq!(read(&[line]), expected, "{line:?}");
         }
     }
 
@@ -121,7 +148,16 @@ mod tests {
             b"}~last",
         ]
         .concat();
-        let expected = (vec![first.to_vec(), second.to_vec()], [7, 3, 4]);
+        let packets = vec![first.to_vec(), second.to_vec()];
+        let start = 13 + frames[0].len();
+        let last = start + 7 + frames[1].len();
+        let gaps = format!(
+            "b0..7 7..13 {}..{} {last}..{}",
+            start + 1,
+            start + 6,
+            last + 6
+        );
+        let expected = (packets, [3, 4], gaps);
         for cut in 0..=line.len() {
             let (start, end) = line.split_at(cut);
             assert_eq!(read(&[start, end]), expected, "{cut}");

@@ -29,7 +29,7 @@ impl Listening {
     /// Scans a file of user bits: the four circuits with most packets are listened to, of those with as many those heard first.
     pub fn in_bits(file: &OsStr, formats: Formats) -> Result<Listening, Error> {
         survey(file, Content::Bits(formats), |survey, chunk| {
-            survey.read(chunk.bytes, chunk.bits)
+            survey.read(chunk.bytes, chunk.bits).map(|_| ())
         })
     }
 
@@ -108,7 +108,7 @@ fn survey(
     }
     let mut input = Input::open(file, content)?;
     let mut progress = Progress::alone(input.length());
-    let mut survey = Survey::new()?;
+    let mut survey = Survey::new(None, false)?;
     while let Some(chunk) = input.chunk()? {
         read(&mut survey, &chunk)?;
         progress.add(chunk.read);

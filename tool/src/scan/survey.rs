@@ -3,22 +3,22 @@
 use std::cmp::Reverse;
 use std::collections::HashMap;
 
-use aes18::{Circuit, Notice, Packet, Receiver, Refusal, RECEIVER_STORE};
+use aes18::{Circuit, Packet};
 
-use crate::circuits;
+use crate::account::{Account, Unit};
 use crate::error::Error;
-use crate::frames;
+use crate::extents::{Kind, Stretch};
+use crate::frames::FLAG_BITS;
+use crate::gaps::Gap;
+use crate::pass::Pass;
 
 /// What is heard in the bits read so far. There are no more than 65,535 circuits, so that the memory used does not grow with the bits.
 pub struct Survey {
-    /// It tells packets of some circuit from others, whatever the circuit that it lists.
-    receiver: Receiver,
-    store: Vec<u8>,
+    /// It lists no circuit, so that a packet of any is told as Elsewhere.
+    pass: Pass,
+    pub account: Account,
     /// Bits read.
     pub bits: u64,
-    pub system: u64,
-    pub spoilt: u64,
-    pub malformed: u64,
     /// The circuits, by who was heard first, and where each is among them.
     heard: Vec<Heard>,
     places: HashMap<Circuit, usize>,
@@ -33,81 +33,94 @@ pub struct Heard {
     pub copies: u64,
     /// Bytes of the packets, copies not counted.
     pub bytes: u64,
+    /// Packets behind so much in no frame that what was lost before them is known only modulo 8.
+    pub modulo: u64,
     /// The first bit of the first frame, which begins with a flag.
     pub from: u64,
     /// The bit behind the last frame, which ends with a flag.
     pub to: u64,
     last: Packet,
+    /// How much stood in no frame before the last packet.
+    free: u64,
 }
 
 impl Survey {
-    /// Nothing read yet.
-    pub fn new() -> Result<Survey, Error> {
+    /// Nothing read yet. Blocks and spare bits are those of a pass.
+    pub fn new(block: Option<u64>, spare: bool) -> Result<Survey, Error> {
         Ok(Survey {
-            receiver: circuits::receiver(&[])?,
-            store: vec![0; RECEIVER_STORE],
+            pass: Pass::new(&[], block, spare)?,
+            account: Account::new(Unit::Bit, &[]),
             bits: 0,
-            system: 0,
-            spoilt: 0,
-            malformed: 0,
             heard: Vec::new(),
             places: HashMap::new(),
         })
     }
 
-    /// Reads the bits of the bytes before the bit `to`.
-    pub fn read(&mut self, bytes: &[u8], to: u64) -> Result<(), Error> {
-        let refused = |refusal: Refusal| Error::Data(refusal.to_string());
+    /// Reads the bits of the bytes before the bit `to`; answers the stretches in no frame that have ended.
+    pub fn read(&mut self, bytes: &[u8], to: u64) -> Result<Vec<Gap>, Error> {
+        let mut gaps = Vec::new();
         let mut from = 0;
-        loop {
-            let framing = self.receiver.framing();
-            let read = self.receiver.read(&mut self.store, bytes, from, to);
-            let read = read.map_err(refused)?;
-            let behind = from + read.bits;
-            self.bits += read.bits;
-            match read.notice {
-                Notice::End => return Ok(()),
-                Notice::Spoilt => self.spoilt += 1,
-                Notice::Malformed => self.malformed += 1,
-                Notice::System { .. } => self.system += 1,
-                Notice::Elsewhere | Notice::Circuit { .. } => {
-                    let packet = frames::packet(framing, bytes, from, behind);
-                    if let Some(packet) = packet.map_err(refused)? {
-                        self.hear(packet).map_err(refused)?;
-                    }
-                }
+        while from < to {
+            let told = self.pass.read(bytes, from, to)?;
+            from += told.bits;
+            self.bits += told.bits;
+            if let Some(heard) = told.heard {
+                self.account.notice(&heard);
+                self.hear(heard.elsewhere.zip(told.packet));
             }
-            from = behind;
+            gaps.extend(self.gaps());
         }
+        Ok(gaps)
     }
 
-    /// Notes a packet of some circuit whose frame ends with the last bit read.
-    fn hear(&mut self, packet: Packet) -> Result<(), Refusal> {
-        let Some(circuit) = circuits::of_packet(&packet) else {
-            return Ok(());
+    /// Ends the reading, when all bits are read; answers the last stretches in no frame.
+    pub fn end(&mut self) -> Vec<Gap> {
+        self.pass.end();
+        self.gaps()
+    }
+
+    /// The stretches in no frame that ended since this was asked last.
+    fn gaps(&mut self) -> Vec<Gap> {
+        let gaps = self.pass.gaps();
+        gaps.iter().for_each(|gap| self.account.gap(gap));
+        gaps
+    }
+
+    /// Notes a packet of a circuit whose frame ends with the last bit read.
+    fn hear(&mut self, packet: Option<(Circuit, Packet)>) {
+        let Some((circuit, packet)) = packet else {
+            return;
         };
+        let free = self.pass.free();
         match self.places.get(&circuit) {
-            Some(place) => self.heard[*place].again(packet, self.bits),
+            Some(place) => self.heard[*place].again(packet, self.bits, free),
             None => {
-                let frame = frames::in_bits(&frames::with_fcs(&packet)?);
                 self.places.insert(circuit, self.heard.len());
                 self.heard.push(Heard {
                     circuit,
                     packets: 1,
                     copies: 0,
                     bytes: packet.len() as u64,
-                    from: self.bits - frame.count,
+                    modulo: 0,
+                    from: self.frame(),
                     to: self.bits,
                     last: packet,
+                    free,
                 });
             }
         }
-        Ok(())
+    }
+
+    /// The first bit of the frame that was read last, which begins with a flag.
+    fn frame(&self) -> u64 {
+        let is_body = |stretch: &&Stretch| matches!(stretch.kind, Kind::Body(_));
+        let body = self.pass.stretches().iter().find(is_body);
+        body.map_or(self.bits, |body| body.from - FLAG_BITS)
     }
 
     /// Whether a frame passed.
     pub fn passed(&self) -> bool {
-        self.system + self.malformed > 0 || !self.heard.is_empty()
+        self.pass.passed()
     }
 
     /// The circuits, those with most packets first, of those with as many those heard first.
@@ -116,11 +129,16 @@ impl Survey {
         ranked.sort_by_key(|heard| Reverse(heard.packets));
         ranked
     }
+
+    /// How many packets are behind so much in no frame that what was lost before them is known only modulo 8.
+    pub fn modulo(&self) -> u64 {
+        self.heard.iter().map(|heard| heard.modulo).sum()
+    }
 }
 
 impl Heard {
-    /// Notes a further packet, whose frame ends before the bit `to`.
-    fn again(&mut self, packet: Packet, to: u64) {
+    /// Notes a further packet, whose frame ends before the bit `to`, behind so much in no frame in all.
+    fn again(&mut self, packet: Packet, to: u64, free: u64) {
         match packet == self.last {
             true => self.copies += 1,
             false => {
@@ -128,7 +146,9 @@ impl Heard {
                 self.bytes += packet.len() as u64;
             }
         }
+        self.modulo += u64::from(free - self.free >= Unit::Bit.doubtful());
         self.to = to;
         self.last = packet;
+        self.free = free;
     }
 }

@@ -2,6 +2,7 @@
 
 use aes18::{Fate, Notice};
 
+use crate::account::Heard;
 use crate::extents::Kind;
 
 /// What a place of the picture shows.
@@ -20,7 +21,7 @@ pub enum Ink {
     },
     Malformed,
     Void,
-    /// The mark of packets lost before a frame.
+    /// The mark of packets lost before a frame, or of a loss known only modulo 8.
     Loss,
     Spoilt,
 }
@@ -29,16 +30,22 @@ impl Ink {
     pub fn of(kind: Kind) -> Ink {
         match kind {
             Kind::Idle => Ink::Idle,
-            Kind::Void => Ink::Void,
+            Kind::Before | Kind::Void => Ink::Void,
             Kind::Flag => Ink::Flag,
-            Kind::Body(Notice::Malformed) => Ink::Malformed,
-            Kind::Body(Notice::System { .. }) => Ink::System,
-            Kind::Body(Notice::Elsewhere) => Ink::Elsewhere,
-            Kind::Body(Notice::Circuit { number, fate, .. }) => Ink::Circuit {
+            Kind::Body(Heard { notice, .. }) => Ink::of_notice(notice),
+        }
+    }
+
+    fn of_notice(notice: Notice) -> Ink {
+        match notice {
+            Notice::Malformed => Ink::Malformed,
+            Notice::System { .. } => Ink::System,
+            Notice::Elsewhere => Ink::Elsewhere,
+            Notice::Circuit { number, fate, .. } => Ink::Circuit {
                 number,
                 used: !matches!(fate, Fate::Orphan | Fate::Wrong),
             },
-            Kind::Body(Notice::Spoilt | Notice::End) => Ink::Spoilt,
+            Notice::Spoilt | Notice::End => Ink::Spoilt,
         }
     }
 

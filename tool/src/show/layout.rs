@@ -29,9 +29,9 @@ pub struct Part<'a> {
 }
 
 impl Layout {
-    /// Whether some bit of the stretch is shown.
-    pub fn shows(&self, stretch: &Stretch) -> bool {
-        stretch.from.max(self.from) < stretch.to.min(self.to)
+    /// Whether some of the bits `from..to` is shown.
+    pub fn shows(&self, from: u64, to: u64) -> bool {
+        from.max(self.from) < to.min(self.to)
     }
 
     /// The parts of a stretch that is shown, row by row.

@@ -3,14 +3,13 @@
 use std::env;
 use std::ffi::OsString;
 use std::io::{self, IsTerminal};
-use std::ops::RangeInclusive;
 
 use aes18::Circuit;
 
 use super::layout::Layout;
 use super::paint::Paint;
 use super::words::Words;
-use crate::args::{self, Arg, Args};
+use crate::args::{self, Arg, Args, BLOCK};
 use crate::circuits;
 use crate::error::Error;
 use crate::formats::{Choice, Formats};
@@ -19,8 +18,6 @@ use crate::scan::Listening;
 
 /// Bits of a row where no block is given.
 const ROW: u64 = 1000;
-/// Bits that a block may have.
-const BLOCK: RangeInclusive<u64> = 256..=27000;
 /// When colours are wanted; none stands for a terminal.
 const COLOURS: [(&str, Option<bool>); 3] = [
     ("always", Some(true)),
@@ -43,6 +40,7 @@ pub struct Options {
     pub width: usize,
     /// The most places that are listed.
     pub places: usize,
+    pub strict: bool,
 }
 
 /// The arguments as they stand.
@@ -58,6 +56,7 @@ struct Given {
     colour: Option<bool>,
     width: Option<u64>,
     all: bool,
+    strict: bool,
 }
 
 impl Options {
@@ -106,6 +105,7 @@ impl Given {
             "--color" => self.colour = arguments.choice(&COLOURS)?,
             "--width" => self.width = Some(arguments.number(WIDTHS)?),
             "--all" => self.all = true,
+            "--strict" => self.strict = true,
             _ => return Err(args::unknown_option(option)),
         }
         Ok(())
@@ -135,6 +135,7 @@ impl Given {
             paint: Paint(self.colour.unwrap_or_else(auto_colour)),
             width: self.width.map_or_else(auto_width, |width| width as usize),
             places: if self.all { usize::MAX } else { PLACES },
+            strict: self.strict,
         })
     }
 }

@@ -2,84 +2,71 @@
 
 use std::io::{self, Write};
 
-use aes18::Figures;
-
 use super::ink::Ink;
 use super::options::Options;
 use super::paint::Paint;
-use super::tally::{Packets, Tally};
+use super::tally::Tally;
 use super::words::Words;
+use crate::account::{gap_words, table, unfinished_words, untraced_words, Unit};
+use crate::output::folded;
 
-/// Writes the legend and the list.
+/// Writes the legend, the figures and the list.
 pub fn write(out: &mut impl Write, options: &Options, tally: &Tally) -> io::Result<()> {
     let (paint, words) = (options.paint, options.words());
-    circuits(out, paint, words, tally)?;
+    writeln!(out)?;
+    circuits(out, paint, words)?;
     others(out, paint, tally)?;
     marks(out, paint)?;
-    places(out, words, tally)
+    write!(out, "\n{}", table(&tally.account))?;
+    places(out, words, tally)?;
+    if let Some(before) = &tally.before {
+        writeln!(out, "{}", gap_words(Unit::Bit, before))?;
+    }
+    for message in &tally.account.unfinished {
+        let words = unfinished_words(&tally.account, message);
+        writeln!(out, "{}", folded(&words))?;
+    }
+    writeln!(out, "{}", untraced_words(Unit::Bit, options.layout.blocks))
 }
 
-/// The listed circuits with the figures of their packets.
-fn circuits(out: &mut impl Write, paint: Paint, words: Words<'_>, tally: &Tally) -> io::Result<()> {
-    let columns = " frames copies begun  held whole   bytes orphan wrong  lost";
-    writeln!(out, "\n{:20}{columns}", "")?;
-    for (number, (packets, figures)) in (0..words.circuits.len()).zip(tally.circuits()) {
+/// The listed circuits.
+fn circuits(out: &mut impl Write, paint: Paint, words: Words<'_>) -> io::Result<()> {
+    for number in 0..words.circuits.len() {
         let ink = Ink::Circuit { number, used: true };
-        entry(out, paint, ink, &words.circuit(number))?;
-        writeln!(out, "{}", row(packets, figures))?;
+        writeln!(out, "{}  {}", symbol(paint, ink), words.circuit(number))?;
     }
     Ok(())
-}
-
-/// A circuit's figures under the legend's columns.
-fn row(packets: &Packets, figures: Figures) -> String {
-    let Packets {
-        frames,
-        copies,
-        begun,
-        held,
-        wrong,
-    } = packets;
-    let Figures {
-        messages,
-        bytes,
-        lost,
-        orphaned,
-    } = figures;
-    format!(
-        " {frames:6} {copies:6} {begun:5} {held:5} {messages:5} {bytes:7} {orphaned:6} {wrong:5} {lost:5}"
-    )
 }
 
 /// The other kinds, each with its figure.
 fn others(out: &mut impl Write, paint: Paint, tally: &Tally) -> io::Result<()> {
+    let account = &tally.account;
     for (ink, name, figure) in [
-        (Ink::System, "system packets", tally.system),
-        (Ink::Elsewhere, "elsewhere", tally.elsewhere),
-        (Ink::Malformed, "malformed", tally.malformed),
-        (Ink::Spoilt, "spoilt", tally.spoilt),
-        (Ink::Void, "bits in no frame", tally.void),
+        (Ink::System, "system packets", account.system),
+        (Ink::Elsewhere, "elsewhere", account.elsewhere),
+        (Ink::Malformed, "malformed", account.malformed),
+        (Ink::Spoilt, "spoilt", account.spoilt),
+        (Ink::Void, "bits in no frame", account.free),
+        (Ink::Void, "before the first flag", account.before),
         (Ink::Flag, "flags", tally.flags),
         (Ink::Idle, "closing ones", tally.idle),
     ] {
-        entry(out, paint, ink, name)?;
-        writeln!(out, "{figure:>7}")?;
+        writeln!(out, "{}  {name:24}{figure:>12}", symbol(paint, ink))?;
     }
     Ok(())
 }
 
-/// A symbol of the picture and its meaning.
-fn entry(out: &mut impl Write, paint: Paint, ink: Ink, name: &str) -> io::Result<()> {
-    let symbol = paint.text(ink, &ink.symbol().to_string());
-    write!(out, "{symbol}  {name:17}")
+/// A symbol of the picture.
+fn symbol(paint: Paint, ink: Ink) -> String {
+    paint.text(ink, &ink.symbol().to_string())
 }
 
 /// The characters that stand for no kind.
 fn marks(out: &mut impl Write, paint: Paint) -> io::Result<()> {
-    let loss = paint.text(Ink::Loss, "^");
+    let loss = symbol(paint, Ink::Loss);
     writeln!(
         out,
-        "{loss}  packets lost before the frame that begins here\n\
+        "{loss}  packets lost before the frame that begins here, or known only modulo 8\n\
          =  the frame goes on; x where it is an orphan or wrong"
     )
 }
@@ -92,37 +79,10 @@ fn places(out: &mut impl Write, words: Words<'_>, tally: &Tally) -> io::Result<(
         count => writeln!(out, "\n{count} places went wrong:")?,
     }
     for place in &tally.places {
-        writeln!(out, "  {}", words.stretch(place))?;
+        writeln!(out, "  {}", words.place(place))?;
     }
     match tally.wrong - tally.places.len() {
         0 => Ok(()),
         more => writeln!(out, "  and {more} more (--all lists them)"),
-    }
-}
-
-#[cfg(test)]
-mod tests {
-    use super::*;
-
-    /// The highest figures stand apart.
-    #[test]
-    fn highest_figures() {
-        let packets = Packets {
-            frames: 1,
-            copies: 2,
-            begun: 3,
-            held: 4,
-            wrong: 5,
-        };
-        let figures = Figures {
-            messages: u32::MAX,
-            bytes: u32::MAX - 1,
-            lost: u32::MAX - 2,
-            orphaned: u32::MAX - 3,
-        };
-        assert_eq!(
-            row(&packets, figures),
-            "      1      2     3     4 4294967295 4294967294 4294967292     5 4294967293"
-        );
     }
 }

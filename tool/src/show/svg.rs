@@ -5,12 +5,10 @@ mod sheet;
 
 use std::io::{self, Write};
 
-use aes18::Notice;
-
 use super::ink::Ink;
 use super::layout::Part;
 use super::tally::Tally;
-use super::words::Words;
+use super::words::{lost, Words};
 use crate::extents::{Kind, Stretch};
 use sheet::{EDGE, LEFT, ROW, TOP};
 
@@ -159,14 +157,9 @@ impl<'a, W: Write> Svg<'a, W> {
         )
     }
 
-    /// The mark of packets lost before a frame.
+    /// The mark of packets lost before a frame, or of a loss known only modulo 8.
     fn mark(&mut self, stretch: &Stretch, x: f64) -> io::Result<()> {
-        let Kind::Body(Notice::Circuit {
-            number,
-            loss: loss @ 1..,
-            ..
-        }) = stretch.kind
-        else {
+        let Some((number, loss, modulo)) = stretch.loss() else {
             return Ok(());
         };
         let left = x - 4.0;
@@ -175,7 +168,7 @@ impl<'a, W: Write> Svg<'a, W> {
             self.out,
             r#"<path class="loss" d="M{left:.2} 2h8l-4 8z"><title>{title}</title></path>"#
         )?;
-        let text = format!("{loss} lost of {}", self.words.address(number));
+        let text = format!("{} of {}", lost(loss, modulo), self.words.address(number));
         self.note(&text, x)
     }
 

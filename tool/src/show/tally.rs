@@ -1,106 +1,105 @@
 //! What a picture shows, counted: the legend's figures and the places that went wrong.
 
-use aes18::{Fate, Figures, Notice, Totals};
+use aes18::{Circuit, Fate, Notice};
 
+use crate::account::{Account, Heard, Unit};
 use crate::extents::{Kind, Stretch};
+use crate::gaps::Gap;
 
-/// What the totals do not have of a listed circuit, in packets.
-#[derive(Clone, Copy, Debug, Default)]
-pub struct Packets {
-    pub frames: u64,
-    pub copies: u64,
-    pub begun: u64,
-    pub held: u64,
-    pub wrong: u64,
+/// A place that went wrong.
+#[derive(Clone, Copy, Debug)]
+pub enum Place {
+    Body(Stretch),
+    Gap(Gap),
+}
+
+impl Place {
+    fn from(&self) -> u64 {
+        match self {
+            Place::Body(body) => body.from,
+            Place::Gap(gap) => gap.from,
+        }
+    }
 }
 
 /// The figures of all that is shown.
-#[derive(Debug, Default)]
 pub struct Tally {
-    circuits: [Packets; 4],
-    totals: Totals,
-    pub system: u64,
-    pub elsewhere: u64,
-    pub malformed: u64,
-    pub spoilt: u64,
+    pub account: Account,
     pub flags: u64,
-    /// Bits of the kind Idle.
+    /// Closing ones.
     pub idle: u64,
-    /// Bits of the kind Void.
-    pub void: u64,
     /// The bit behind the last one.
     pub end: u64,
-    /// The places that went wrong, as many as are kept.
-    pub places: Vec<Stretch>,
+    /// What stands before the first flag, where it is shown: the recording may begin inside a frame.
+    pub before: Option<Gap>,
+    /// The first places that went wrong, in the order of the bits, as many as are kept.
+    pub places: Vec<Place>,
     /// How many places went wrong.
     pub wrong: usize,
+    /// The most places that are kept.
+    most: usize,
 }
 
 impl Tally {
-    /// Counts a stretch; of the places that went wrong the first `most` are kept.
-    pub fn add(&mut self, stretch: &Stretch, most: usize) {
+    /// Nothing shown yet of these circuits.
+    pub fn new(circuits: &[Circuit], most: usize) -> Tally {
+        Tally {
+            account: Account::new(Unit::Bit, circuits),
+            flags: 0,
+            idle: 0,
+            end: 0,
+            before: None,
+            places: Vec::new(),
+            wrong: 0,
+            most,
+        }
+    }
+
+    /// Counts a stretch.
+    pub fn add(&mut self, stretch: &Stretch) {
         self.end = stretch.to;
-        self.count(stretch);
-        if went_wrong(stretch.kind) {
-            self.wrong += 1;
-            if self.places.len() < most {
-                self.places.push(*stretch);
-            }
-        }
-    }
-
-    fn count(&mut self, stretch: &Stretch) {
-        let bits = stretch.to - stretch.from;
-        match stretch.kind {
-            Kind::Idle => self.idle += bits,
-            Kind::Void => self.void += bits,
+        match &stretch.kind {
+            Kind::Before | Kind::Void => {}
+            Kind::Idle => self.idle += stretch.to - stretch.from,
             Kind::Flag => self.flags += 1,
-            Kind::Body(notice) => self.count_notice(&notice),
-        }
-    }
-
-    fn count_notice(&mut self, notice: &Notice) {
-        self.totals.note(notice);
-        match *notice {
-            Notice::Spoilt | Notice::End => self.spoilt += 1,
-            Notice::Malformed => self.malformed += 1,
-            Notice::System { .. } => self.system += 1,
-            Notice::Elsewhere => self.elsewhere += 1,
-            Notice::Circuit { number, fate, .. } => {
-                if let Some(packets) = self.circuits.get_mut(number) {
-                    packets.count(fate);
+            Kind::Body(heard) => {
+                self.account.notice(heard);
+                if went_wrong(heard) {
+                    self.keep(Place::Body(*stretch));
                 }
             }
         }
     }
 
-    /// The packets of each circuit number and its figures in the totals.
-    pub fn circuits(&self) -> impl Iterator<Item = (&Packets, Figures)> {
-        self.circuits.iter().zip(self.totals.circuits())
+    /// Counts a stretch in no frame, which is known when it has ended.
+    pub fn add_gap(&mut self, gap: &Gap) {
+        self.account.gap(gap);
+        match gap.first {
+            true => self.before = Some(*gap),
+            false => self.keep(Place::Gap(*gap)),
+        }
+    }
+
+    /// Keeps a place before those that do not begin before it.
+    fn keep(&mut self, place: Place) {
+        self.wrong += 1;
+        let before = |kept: &Place| kept.from() < place.from();
+        let at = self.places.partition_point(before);
+        self.places.insert(at, place);
+        self.places.truncate(self.most);
     }
 }
 
-impl Packets {
-    fn count(&mut self, fate: Fate) {
-        self.frames += 1;
-        match fate {
-            Fate::Copy => self.copies += 1,
-            Fate::Begun => self.begun += 1,
-            Fate::Held => self.held += 1,
-            Fate::Wrong => self.wrong += 1,
-            Fate::Whole(_) | Fate::Orphan => {}
+/// Whether a notice is of a place that went wrong: a body that is spoilt or malformed, a packet behind lost ones, or whose loss is known only modulo 8,
+/// one that drops a message, or one of no use.
+fn went_wrong(heard: &Heard) -> bool {
+    match heard.notice {
+        Notice::Circuit { loss, fate, .. } => {
+            loss > 0
+                || heard.free.is_some()
+                || heard.dropped
+                || matches!(fate, Fate::Orphan | Fate::Wrong)
         }
-    }
-}
-
-/// Whether a stretch is a place that went wrong: bits in no frame, a body that is spoilt or malformed, a packet behind lost ones or of no use.
-fn went_wrong(kind: Kind) -> bool {
-    match kind {
-        Kind::Idle | Kind::Flag => false,
-        Kind::Void => true,
-        Kind::Body(Notice::Circuit { loss, fate, .. }) => {
-            loss > 0 || matches!(fate, Fate::Orphan | Fate::Wrong)
-        }
-        Kind::Body(notice) => matches!(notice, Notice::Spoilt | Notice::Malformed),
+        notice => matches!(notice, Notice::Spoilt | Notice::Malformed),
     }
 }

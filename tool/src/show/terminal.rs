@@ -3,13 +3,12 @@
 use std::io::{self, Write};
 use std::mem;
 
-use aes18::Notice;
-
 use super::ink::Ink;
 use super::layout::{Layout, Part};
 use super::options::Options;
 use super::paint::Paint;
-use crate::extents::Kind;
+use super::words::lost;
+use crate::extents::{Kind, Stretch};
 use crate::input::Input;
 
 /// The columns that a row's label takes at least, and the space behind it.
@@ -36,6 +35,8 @@ struct Mark {
     cell: usize,
     number: usize,
     loss: u8,
+    /// Whether it is known only modulo 8.
+    modulo: bool,
 }
 
 /// The picture, of which the row in work is held back, and rows like the last one written.
@@ -120,22 +121,22 @@ impl<'a, W: Write> Terminal<'a, W> {
             self.put(cell, Cell { ink, body });
         }
         if part.begins {
-            self.mark(first, part.stretch.kind);
+            self.mark(first, part.stretch);
         }
         Ok(())
     }
 
     /// Marks a loss before the frame that begins in a cell.
-    fn mark(&mut self, cell: usize, kind: Kind) {
-        if let Kind::Body(Notice::Circuit {
-            number,
-            loss: loss @ 1..,
-            ..
-        }) = kind
-        {
+    fn mark(&mut self, cell: usize, stretch: &Stretch) {
+        if let Some((number, loss, modulo)) = stretch.loss() {
             let (ink, body) = (Ink::Loss, 0);
             self.put(cell, Cell { ink, body });
-            self.marks.push(Mark { cell, number, loss });
+            self.marks.push(Mark {
+                cell,
+                number,
+                loss,
+                modulo,
+            });
         }
     }
 
@@ -217,7 +218,8 @@ impl<'a, W: Write> Terminal<'a, W> {
 fn note_lines(marks: &[Mark], cells: usize) -> Vec<String> {
     let mut lines: Vec<String> = Vec::new();
     for mark in marks {
-        let text = format!("{} lost of circuit {}", mark.loss, mark.number);
+        let lost = lost(mark.loss, mark.modulo);
+        let text = format!("{lost} of circuit {}", mark.number);
         let (start, text) = match mark.cell + text.len() < cells {
             true => (mark.cell, format!("^{text}")),
             false => (mark.cell.saturating_sub(text.len()), format!("{text}^")),

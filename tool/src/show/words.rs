@@ -1,8 +1,10 @@
-//! What a stretch is, in words.
+//! Where a stretch lies and what it is, in words.
 
-use aes18::{Circuit, Fate, Notice};
+use aes18::Circuit;
 
 use super::layout::Layout;
+use super::tally::Place;
+use crate::account::{self, gap_words, Unit};
 use crate::extents::{Kind, Stretch};
 
 /// The circuits by number, and the layout, which words refer to.
@@ -13,47 +15,39 @@ pub struct Words<'a> {
 }
 
 impl Words<'_> {
-    /// Where a stretch lies and what it is.
-    pub fn stretch(&self, stretch: &Stretch) -> String {
-        let (first, last) = (stretch.from, stretch.to - 1);
-        let place = match self.layout.blocks {
-            true => format!("block {}, ", first / self.layout.row),
-            false => String::new(),
-        };
-        let bits = match first == last {
-            true => format!("bit {first}"),
-            false => format!("bits {first} to {last}"),
-        };
-        format!("{place}{bits}: {}", self.kind(stretch.kind))
-    }
-
-    fn kind(&self, kind: Kind) -> String {
-        match kind {
-            Kind::Idle => "ones".to_string(),
-            Kind::Void => "in no frame".to_string(),
-            Kind::Flag => "flag".to_string(),
-            Kind::Body(notice) => self.notice(notice),
+    /// A place that went wrong.
+    pub fn place(&self, place: &Place) -> String {
+        match place {
+            Place::Body(body) => self.stretch(body),
+            Place::Gap(gap) => format!("{}{}", self.block(gap.from), gap_words(Unit::Bit, gap)),
         }
     }
 
-    fn notice(&self, notice: Notice) -> String {
-        match notice {
-            Notice::End => "end".to_string(),
-            Notice::Spoilt => "spoilt".to_string(),
-            Notice::Malformed => "malformed packet".to_string(),
-            Notice::System {
-                enable,
-                code,
-                length,
-            } => {
-                format!(
-                    "system packet, enable bits {enable:04b}, block code {code}, {length} bytes"
-                )
+    /// Where a stretch lies and what it is.
+    pub fn stretch(&self, stretch: &Stretch) -> String {
+        let bits = account::place(Unit::Bit, stretch.from, stretch.to);
+        let block = self.block(stretch.from);
+        match &stretch.kind {
+            Kind::Before => format!("{block}{bits}: before the first flag"),
+            Kind::Idle => format!("{block}{bits}: closing ones"),
+            Kind::Void => format!("{block}{bits}: in no frame"),
+            Kind::Flag => format!("{block}{bits}: flag"),
+            Kind::Body(heard) => {
+                let words = account::Words {
+                    heard,
+                    circuits: self.circuits,
+                    unit: Unit::Bit,
+                };
+                format!("{block}{bits}: {words}")
             }
-            Notice::Elsewhere => "packet of a circuit that is not listed".to_string(),
-            Notice::Circuit { number, loss, fate } => {
-                format!("{}, {}{}", self.circuit(number), lost(loss), fated(fate))
-            }
+        }
+    }
+
+    /// The block that has the bit, where rows are blocks.
+    fn block(&self, bit: u64) -> String {
+        match self.layout.blocks {
+            true => format!("block {}, ", bit / self.layout.row),
+            false => String::new(),
         }
     }
 
@@ -67,22 +61,10 @@ impl Words<'_> {
     }
 }
 
-/// The loss before a packet, where there is one.
-fn lost(loss: u8) -> String {
-    match loss {
-        0 => String::new(),
-        1 => "1 packet lost before it; ".to_string(),
-        _ => format!("{loss} packets lost before it; "),
-    }
-}
-
-fn fated(fate: Fate) -> String {
-    match fate {
-        Fate::Copy => "copy".to_string(),
-        Fate::Begun => "begins a message".to_string(),
-        Fate::Held => "continues its message".to_string(),
-        Fate::Whole(length) => format!("completes a message of {length} bytes"),
-        Fate::Orphan => "orphan: no message is open".to_string(),
-        Fate::Wrong => "wrong in length".to_string(),
+/// What a mark says of a loss: how many were lost, and whether that is known only modulo 8.
+pub fn lost(loss: u8, modulo: bool) -> String {
+    match modulo {
+        true => format!("{loss} modulo 8 lost"),
+        false => format!("{loss} lost"),
     }
 }

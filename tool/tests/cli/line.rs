@@ -3,11 +3,12 @@
 use std::io::{BufRead, BufReader, Write};
 use std::process::Stdio;
 
+use serde_json::Value;
+
 use super::decode::torn_pass;
 use super::encode::PLAN;
 use super::frames::{bytes_of, fcs, framed};
-use super::json::{self, Value};
-use super::runs::{names, Folder};
+use super::runs::{names, objects, Folder};
 
 const ALL: &str = "--circuits=01,02:07,7E";
 
@@ -28,23 +29,18 @@ fn line_of(packets: &[&[u8]]) -> Vec<u8> {
     line
 }
 
-/// The start of the totals of a line with a flag in it: its bytes, those before the first flag and those behind the last.
-fn read_of(line: &[u8]) -> String {
-    let is_flag = |byte: &u8| *byte == 0x7E;
-    let before = line.iter().position(is_flag).unwrap();
-    let behind = line.iter().rev().position(is_flag).unwrap();
-    let read = line.len();
-    format!("bytes read {read}, before the first flag {before}, behind the last {behind}")
-}
-
-/// The lines of notices without their places, and the totals without their last line.
+/// The lines of notices without their places, and the table, both without what is in no frame and what is said of losses behind it.
 fn without_places(told: &str) -> String {
-    let units = ["bits read", "bytes read"];
+    let notice = |line: &str| match line.split_once(" modulo 8 (") {
+        Some((start, end)) => format!("{start}{}\n", end.split_once(')').unwrap().1),
+        None => format!("{line}\n"),
+    };
     told.lines()
-        .filter(|line| !units.iter().any(|unit| line.starts_with(unit)))
+        .take_while(|line| !line.contains("s read "))
+        .filter(|line| !line.contains(": in no frame, ") && !line.starts_with("modulo 8 "))
         .map(|line| match line.split_once(": ") {
-            Some((place, notice)) if place.starts_with('b') => format!("{notice}\n"),
-            _ => format!("{line}\n"),
+            Some((place, line)) if place.starts_with('b') => notice(line),
+            _ => notice(line),
         })
         .collect()
 }
@@ -94,11 +90,23 @@ byte 105: 7E, loss 0, Copy
 byte 118: 7E, loss 0, Copy
 byte 135: 01, loss 0, Whole, length 10: \"charge 71%\"
 
-circuit    packets    copies      lost  messages     bytes   orphans     wrong
-01               1         0         0         1        10         0         0
-02:07            0         0         0         0         0         0         0
-7E               2         4         0         1        20         0         0
-bytes read 135, before the first flag 0, behind the last 0; System 1, Dropped 0, Malformed 0, Elsewhere 0
+circuit                    01            02:07               7E
+packets                     1                0                2
+copies                      0                0                4
+lost                        0                0                0
+modulo 8                    0                0                0
+begun                       0                0                1
+held                        0                0                0
+messages                    1                0                1
+bytes                      10                0               20
+dropped                     0                0                0
+orphans                     0                0                0
+wrong                       0                0                0
+bytes read 135; System 1, Dropped 0, Malformed 0, Elsewhere 0
+in no frame: 0 bytes in 0 stretches
+before the first flag 0, behind the last 0
+known only modulo 8: 0 places
+No trace is left by bytes missing altogether and dropouts to flags.
 ";
     assert_eq!(line, expected);
 }
@@ -110,22 +118,32 @@ fn the_same_json() {
         let told = folder
             .run(&[&["decode", "--json", ALL], arguments].concat())
             .told();
-        told.lines().map(json::parse).collect()
+        objects(&told)
     };
-    let (bits, line) = (told(&["bits"]), told(&["--line", "line"]));
+    let (mut bits, mut line) = (told(&["bits"]), told(&["--line", "line"]));
     assert_eq!((bits.len(), line.len()), (9, 9));
-    for (bits, line) in bits.iter().zip(&line).take(8) {
-        let (Value::Object(bits), Value::Object(line)) = (bits, line) else {
-            panic!("{bits:?} {line:?}");
-        };
-        assert_eq!((bits[0].0.as_str(), line[0].0.as_str()), ("bit", "byte"));
-        assert_eq!(bits[1..], line[1..]);
+    for (bits, line) in bits.iter_mut().zip(&mut line).take(8) {
+        let (bits, line) = (bits.as_object_mut().unwrap(), line.as_object_mut().unwrap());
+        assert!(bits.remove("bit").is_some() && line.remove("byte").is_some());
+        assert_eq!(bits, line);
     }
-    let start =
-        r#"{"byte":23,"notice":"Circuit","number":2,"circuit":"7E","loss":0,"fate":"Begun"}"#;
-    assert_eq!(line[0], json::parse(start));
-    let totals = r#"{"totals":{"bytes":135,"before":0,"behind":0,"system":1,"dropped":0,"malformed":0,"elsewhere":0,"circuits":[{"number":0,"circuit":"01","packets":1,"copies":0,"lost":0,"messages":1,"bytes":10,"orphans":0,"wrong":0},{"number":1,"circuit":"02:07","packets":0,"copies":0,"lost":0,"messages":0,"bytes":0,"orphans":0,"wrong":0},{"number":2,"circuit":"7E","packets":2,"copies":4,"lost":0,"messages":1,"bytes":20,"orphans":0,"wrong":0}]}}"#;
-    assert_eq!(line[8], json::parse(totals));
+    let begun = r#"{"notice":"Circuit","number":2,"circuit":"7E","loss":0,"fate":"Begun"}"#;
+    assert_eq!(line[0], objects(begun)[0]);
+    let (bits, line) = (&bits[8]["totals"], &line[8]["totals"]);
+    assert_eq!(line["circuits"], bits["circuits"]);
+    let figures = [
+        "bytes",
+        "before",
+        "behind",
+        "gaps",
+        "gap_bytes",
+        "dropped",
+        "system",
+    ];
+    let figures = figures.map(|figure| line[figure].as_u64().unwrap());
+    assert_eq!(figures, [135, 0, 0, 0, 0, 0, 1]);
+    let untraced = r#"{"untraced":["bytes missing altogether","dropouts to flags"]}"#;
+    assert_eq!(line["untraced"], objects(untraced)[0]["untraced"]);
 }
 
 #[test]
@@ -208,7 +226,7 @@ fn torn_bits() {
     assert_eq!(spoilt.matches("Spoilt\n").count(), 2);
     assert_eq!(without_places(&line), spoilt.replace("Spoilt\n", ""));
     assert!(
-        line.ends_with("; System 1, Dropped 0, Malformed 0, Elsewhere 3\n"),
+        line.contains("; System 1, Dropped 0, Malformed 0, Elsewhere 3\n"),
         "{line}"
     );
 }
@@ -241,15 +259,65 @@ fn a_damaged_line() {
         .run(&["decode", "--line", "--circuits=01", "line"])
         .told();
     let expected = "\
+bytes 0 to 7: before the first flag, 8 bytes
 byte 18: 01, loss 0, Whole, length 3: \"one\"
 byte 27: 01, loss 0, Whole, length 3: \"two\"
-byte 84: 01, loss 1, Whole, length 4: \"four\"
+bytes 28 to 37: in no frame, 10 bytes
+bytes 40 to 42: in no frame, 3 bytes
+bytes 45 to 66: in no frame, 22 bytes
+bytes 69 to 71: in no frame, 3 bytes
+byte 84: 01, loss 1 modulo 8 (38 bytes in no frame), Whole, length 4: \"four\"
+bytes 84 to 89: in no frame, 6 bytes
 
-circuit    packets    copies      lost  messages     bytes   orphans     wrong
-01               3         0         1         3        10         0         0
-bytes read 90, before the first flag 8, behind the last 6; System 0, Dropped 4, Malformed 0, Elsewhere 0
+circuit                    01
+packets                     3
+copies                      0
+lost                        1
+modulo 8                    1
+begun                       0
+held                        0
+messages                    3
+bytes                      10
+dropped                     0
+orphans                     0
+wrong                       0
+bytes read 90; System 0, Dropped 4, Malformed 0, Elsewhere 0
+in no frame: 44 bytes in 5 stretches
+before the first flag 8, behind the last 6
+known only modulo 8: 1 place
+No trace is left by bytes missing altogether and dropouts to flags.
 ";
     assert_eq!(told, expected);
+    let ran = folder.run(&["decode", "--line", "--strict", "--circuits=01", "line"]);
+    assert_eq!((ran.status, ran.out), (3, expected.as_bytes().to_vec()));
+    let faults = "1 packet lost, 1 place known only modulo 8, 44 bytes in no frame";
+    assert_eq!(ran.err, format!("aes18: line: --strict: {faults}\n"));
+}
+
+/// From 35 bytes in no frame on a loss is known only modulo 8: the flags between two stretches count where they border nothing else.
+#[test]
+fn doubtful_bytes() {
+    let folder = Folder::new("line-doubtful");
+    let (one, two) = (line_of(&[b"\x01\x80\x01a"]), line_of(&[b"\x01\x80\x01a"]));
+    for (dropped, doubtful) in [
+        (vec![b'-'; 34], false),
+        (vec![b'-'; 35], true),
+        ([&[b'-'; 17][..], b"~", &[b'-'; 16]].concat(), false),
+        ([&[b'-'; 17][..], b"~", &[b'-'; 17]].concat(), true),
+        ([&[b'-'; 17][..], b"~~", &[b'-'; 17]].concat(), false),
+        ([&[b'-'; 18][..], b"~~", &[b'-'; 17]].concat(), true),
+    ] {
+        folder.write("line", [&one[..], &dropped, &two].concat());
+        let told = folder
+            .run(&["decode", "--line", "--circuits=01", "line"])
+            .told();
+        assert_eq!(
+            told.contains(", loss 0 modulo 8 (35 bytes in no frame), Copy\n"),
+            doubtful,
+            "{told}"
+        );
+        assert_eq!(told.contains(", loss 0, Copy\n"), !doubtful, "{told}");
+    }
 }
 
 /// Bytes before the first flag and behind the last are told: noise, a last frame whose closing flag is missing, and a line without a flag.
@@ -260,16 +328,17 @@ fn bytes_in_no_frame() {
     let unclosed = &frame[..frame.len() - 1];
     let body = &unclosed[1..];
     let length = body.len();
-    let cases: [(Vec<u8>, usize, usize, usize); 7] = [
-        (frame.clone(), 1, 0, 0),
-        ([b"} noise", &frame[..]].concat(), 1, 7, 0),
-        (unclosed.to_vec(), 0, 0, length),
-        ([&frame[..], unclosed].concat(), 1, 0, length),
-        ([body, &frame, body].concat(), 1, length, length),
-        (body.to_vec(), 0, length, 0),
-        (vec![0x7D; 100_000], 0, 100_000, 0),
+    // Messages, bytes before the first flag, behind the last, and in no frame.
+    let cases: [(Vec<u8>, usize, usize, usize, usize); 7] = [
+        (frame.clone(), 1, 0, 0, 0),
+        ([b"} noise", &frame[..]].concat(), 1, 7, 0, 0),
+        (unclosed.to_vec(), 0, 0, length, length + 1),
+        ([&frame[..], unclosed].concat(), 1, 0, length, length),
+        ([body, &frame, body].concat(), 1, length, length, length),
+        (body.to_vec(), 0, 0, 0, length),
+        (vec![0x7D; 100_000], 0, 0, 0, 100_000),
     ];
-    for (line, messages, before, behind) in cases {
+    for (line, messages, before, behind, free) in cases {
         folder.write("line", &line);
         let told = |option: &[&str]| {
             folder
@@ -278,15 +347,23 @@ fn bytes_in_no_frame() {
         };
         let (text, json) = (told(&[]), told(&["--json"]));
         assert_eq!(text.matches("Whole").count(), messages, "{text}");
-        let read = line.len();
-        let totals = format!(
-            "\nbytes read {read}, before the first flag {before}, behind the last {behind}; System 0, Dropped 0, "
+        let (read, gaps) = (line.len(), usize::from(free > 0));
+        assert!(
+            text.contains(&format!("\nbytes read {read}; System 0, Dropped 0, ")),
+            "{text}"
         );
-        assert!(text.contains(&totals), "{text}");
+        let outside = format!("\nbefore the first flag {before}, behind the last {behind}\n");
+        assert!(
+            text.contains(&format!("\nin no frame: {free} bytes in {gaps} stretch")),
+            "{text}"
+        );
+        assert!(text.contains(&outside), "{text}");
         let totals = format!(
-            r#"{{"totals":{{"bytes":{read},"before":{before},"behind":{behind},"system":0,"dropped":0,"#
+            r#"{{"totals":{{"bytes":{read},"before":{before},"behind":{behind},"gaps":{gaps},"gap_bytes":{free},"#
         );
         assert!(json.lines().last().unwrap().starts_with(&totals), "{json}");
+        let strict = folder.run(&["decode", "--line", "--circuits=01", "--strict", "line"]);
+        assert_eq!(strict.status, if free > 0 { 3 } else { 0 }, "{text}");
     }
 }
 
@@ -306,6 +383,7 @@ fn a_line_byte_by_byte() {
     let mut told = BufReader::new(child.stdout.take().unwrap());
     let mut sent = 0;
     let (notices, _) = expected.split_once("\n\n").unwrap();
+    assert!(notices.lines().all(|line| line.starts_with("byte ")));
     for notice in notices.lines() {
         let (place, _) = notice.split_once(':').unwrap();
         let place: usize = place.strip_prefix("byte ").unwrap().parse().unwrap();
@@ -370,10 +448,15 @@ warning: bits: no frame found, nor in another format or channel
     let told = folder
         .run(&["decode", "--line", "--circuits=01", "noise"])
         .told();
+    let is_flag = |byte: &u8| *byte == 0x7E;
+    let before = noise.iter().position(is_flag).unwrap();
+    let behind = noise.iter().rev().position(is_flag).unwrap();
+    let outside = format!("\nbefore the first flag {before}, behind the last {behind}\n");
     assert!(
-        told.contains(&format!("\n{}; System 0, Dropped ", read_of(&noise))),
+        told.contains("\nbytes read 200000; System 0, Dropped "),
         "{told}"
     );
+    assert!(told.contains(&outside), "{told}");
 }
 
 /// Nothing is written where something is wrong, and what stood there stays.

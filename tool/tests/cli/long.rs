@@ -55,17 +55,26 @@ pub fn run(folder: &Folder, arguments: &[&str]) -> (Vec<u8>, String) {
     (end, String::from_utf8(output.stderr).unwrap())
 }
 
-/// The totals of the repeated pass.
+/// The totals of the repeated pass, up to the figures behind the table.
 fn totals(times: usize, read: &str) -> String {
     let messages = 40 * times;
-    format!(
-        "\n01      {:10}         0         0{messages:10}{:10}         0         0\n\
-         02:07   {messages:10}         0         0{messages:10}{:10}         0         0\n\
-         {read}, Malformed 0, Elsewhere 0\n",
-        8 * messages,
-        115 * messages,
-        11 * messages,
-    )
+    let mut table = String::new();
+    for (name, first, second) in [
+        ("packets", 8 * messages, messages),
+        ("copies", 0, 0),
+        ("lost", 0, 0),
+        ("modulo 8", 0, 0),
+        ("begun", messages, 0),
+        ("held", 6 * messages, 0),
+        ("messages", messages, messages),
+        ("bytes", 115 * messages, 11 * messages),
+        ("dropped", 0, 0),
+        ("orphans", 0, 0),
+        ("wrong", 0, 0),
+    ] {
+        table += &format!("{name:12}{first:17}{second:17}\n");
+    }
+    format!("\n{table}{read}, Malformed 0, Elsewhere 0\nin no frame: 0 ")
 }
 
 #[test]
@@ -77,7 +86,7 @@ fn a_long_pass_takes_little_memory() {
     let bits = 8 * folder.read("pass").len() * times;
     let totals = totals(times, &format!("bits read {bits}; System 0, Spoilt 0"));
     let end = String::from_utf8(end).unwrap();
-    assert!(end.ends_with(&totals), "{end}");
+    assert!(end.contains(&totals), "{end}");
 }
 
 #[test]
@@ -98,10 +107,9 @@ fn a_long_line_takes_little_memory() {
         &["decode", "--line", "--circuits=01,02:07", "line"],
     );
     assert_eq!(err, "");
-    let read = format!("bytes read {bytes}, before the first flag 0, behind the last 0");
-    let totals = totals(times, &format!("{read}; System 0, Dropped 0"));
+    let totals = totals(times, &format!("bytes read {bytes}; System 0, Dropped 0"));
     let end = String::from_utf8(end).unwrap();
-    assert!(end.ends_with(&totals), "{end}");
+    assert!(end.contains(&totals), "{end}");
 }
 
 /// A long capture read, and the pass put into its other channel.
@@ -117,7 +125,7 @@ fn a_long_capture_takes_little_memory() {
     let bits = folder.read("pass").len() / 8 * times;
     let totals = totals(times, &format!("bits read {bits}; System 0, Spoilt 0"));
     let end = String::from_utf8(end).unwrap();
-    assert!(end.ends_with(&totals), "{end}");
+    assert!(end.contains(&totals), "{end}");
 
     let into = ["encode", "plan", "--into", "long", "-o", "-"];
     let (end, err) = run(&folder, &[&into[..], &right].concat());
@@ -139,7 +147,7 @@ fn follow(child: &mut Child) -> (Vec<u8>, u64) {
             return (end, memory);
         }
         end.extend_from_slice(&buffer[..count]);
-        end.drain(..end.len().saturating_sub(1000));
+        end.drain(..end.len().saturating_sub(2000));
         memory = most_memory(child.id()).unwrap_or(memory);
     }
 }

@@ -7,7 +7,7 @@ mod encode;
 #[allow(dead_code)]
 #[path = "../../../rust/tests/library/frames.rs"]
 mod frames;
-mod json;
+mod gaps;
 mod line;
 mod long;
 mod runs;

@@ -5,6 +5,8 @@ use std::path::{Path, PathBuf};
 use std::process::{Command, Output, Stdio};
 use std::{env, fs, process};
 
+use serde_json::Value;
+
 /// A folder of a test's own, gone at the test's end.
 pub struct Folder {
     path: PathBuf,
@@ -108,4 +110,12 @@ pub fn names(folder: &Path) -> Vec<String> {
         .collect();
     names.sort();
     names
+}
+
+/// The JSON objects of lines, each of which holds one.
+pub fn objects(lines: &str) -> Vec<Value> {
+    let parse = |line: &str| serde_json::from_str(line).expect(line);
+    let objects: Vec<Value> = lines.lines().map(parse).collect();
+    assert!(objects.iter().all(Value::is_object), "{lines}");
+    objects
 }

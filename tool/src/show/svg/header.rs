@@ -5,9 +5,10 @@ use std::io::{self, Write};
 use aes18::Figures;
 
 use super::super::ink::Ink;
-use super::super::tally::{Packets, Tally};
+use super::super::tally::Tally;
 use super::super::words::Words;
 use super::sheet::{EDGE, LEFT, ROW, TOP};
+use crate::account::{figures, Packets};
 
 /// Where the legend's columns are.
 const COLUMNS: [f64; 3] = [EDGE, EDGE + 750.0, EDGE + 1020.0];
@@ -47,7 +48,8 @@ fn extent(out: &mut impl Write, words: Words<'_>, tally: &Tally) -> io::Result<(
 
 /// The legend's columns: the circuits, the other bodies, the rest.
 fn columns(words: Words<'_>, tally: &Tally) -> [Vec<(Ink, String)>; 3] {
-    let circuits = (0..words.circuits.len()).zip(tally.circuits());
+    let account = &tally.account;
+    let circuits = (0..words.circuits.len()).zip(account.circuits());
     let circuits = circuits.map(|(number, (packets, figures))| {
         let text = format!("{}: {}", words.circuit(number), told(packets, figures));
         (Ink::Circuit { number, used: true }, text)
@@ -55,22 +57,22 @@ fn columns(words: Words<'_>, tally: &Tally) -> [Vec<(Ink, String)>; 3] {
     [
         circuits.collect(),
         vec![
-            (Ink::System, format!("system packets: {}", tally.system)),
+            (Ink::System, format!("system packets: {}", account.system)),
             (
                 Ink::Elsewhere,
-                format!("packets of circuits not listed: {}", tally.elsewhere),
+                format!("packets of circuits not listed: {}", account.elsewhere),
             ),
             (
                 Ink::Malformed,
-                format!("malformed packets: {}", tally.malformed),
+                format!("malformed packets: {}", account.malformed),
             ),
-            (Ink::Spoilt, format!("spoilt: {}", tally.spoilt)),
-            (Ink::Void, format!("bits in no frame: {}", tally.void)),
+            (Ink::Spoilt, format!("spoilt: {}", account.spoilt)),
+            (Ink::Void, format!("bits in no frame: {}", account.free)),
         ],
         vec![
             (Ink::Flag, format!("flags: {}", tally.flags)),
             (Ink::Idle, format!("closing ones: {}", tally.idle)),
-            (Ink::Loss, "packets lost before the frame below".to_string()),
+            (Ink::Loss, "lost before the frame, or modulo 8".to_string()),
             (
                 Ink::Circuit {
                     number: 0,
@@ -83,20 +85,11 @@ fn columns(words: Words<'_>, tally: &Tally) -> [Vec<(Ink, String)>; 3] {
 }
 
 /// A circuit's figures, as far as they are not 0.
-fn told(packets: &Packets, figures: Figures) -> String {
-    let named = [
-        (packets.copies, "copies"),
-        (figures.messages.into(), "whole"),
-        (figures.bytes.into(), "bytes"),
-        (figures.orphaned.into(), "orphan"),
-        (packets.wrong, "wrong"),
-        (figures.lost.into(), "lost"),
-    ];
-    let mut text = format!("frames {}", packets.frames);
-    for (figure, name) in named.iter().filter(|(figure, _)| *figure > 0) {
-        text.push_str(&format!(", {name} {figure}"));
-    }
-    text
+fn told(packets: &Packets, totals: Figures) -> String {
+    let figures = figures(packets, totals).into_iter();
+    let named = figures.filter(|(name, figure)| *name == "packets" || *figure > 0);
+    let words = named.map(|(name, figure)| format!("{name} {figure}"));
+    words.collect::<Vec<_>>().join(", ")
 }
 
 /// A swatch and its meaning.

@@ -1,0 +1,146 @@
+//! The names of notices, fates and stretches.
+
+use std::fmt::{self, Display, Formatter};
+
+use aes18::{Circuit, Fate, Notice};
+
+use super::{Account, Heard, Unfinished, Unit};
+use crate::gaps::Gap;
+use crate::output::count;
+
+/// The specification's name of a fate.
+pub fn fate_name(fate: Fate) -> &'static str {
+    match fate {
+        Fate::Copy => "Copy",
+        Fate::Begun => "Begun",
+        Fate::Held => "Held",
+        Fate::Whole(_) => "Whole",
+        Fate::Orphan => "Orphan",
+        Fate::Wrong => "Wrong",
+    }
+}
+
+/// A notice in words, such as `02:07, loss 0, Whole, length 10`.
+pub struct Words<'a> {
+    pub heard: &'a Heard,
+    /// The circuits listed.
+    pub circuits: &'a [Circuit],
+    pub unit: Unit,
+}
+
+impl Display for Words<'_> {
+    fn fmt(&self, f: &mut Formatter<'_>) -> fmt::Result {
+        match self.heard.notice {
+            Notice::End => f.write_str("End"),
+            Notice::Spoilt => f.write_str("Spoilt"),
+            Notice::Malformed => f.write_str("Malformed"),
+            Notice::System {
+                enable,
+                code,
+                length,
+            } => write!(
+                f,
+                "System, enable bits {enable}, code {code}, length {length}"
+            ),
+            Notice::Elsewhere => match self.heard.elsewhere {
+                Some(circuit) => write!(f, "Elsewhere, {circuit}"),
+                None => f.write_str("Elsewhere"),
+            },
+            Notice::Circuit { number, loss, fate } => {
+                write!(f, "{}, loss {loss}", self.circuits[number])?;
+                self.doubts(f)?;
+                f.write_str(", ")?;
+                f.write_str(fate_name(fate))?;
+                match fate {
+                    Fate::Whole(length) => write!(f, ", length {length}"),
+                    _ => Ok(()),
+                }
+            }
+        }
+    }
+}
+
+impl Words<'_> {
+    /// What is said of the loss.
+    fn doubts(&self, f: &mut Formatter<'_>) -> fmt::Result {
+        if let Some(free) = self.heard.free {
+            let free = count(free, self.unit.name());
+            write!(f, " modulo 8 ({free} in no frame)")?;
+        }
+        match self.heard.dropped {
+            true => f.write_str(", message dropped"),
+            false => Ok(()),
+        }
+    }
+}
+
+/// Where units `from..to` lie, such as `bits 5120 to 7167`.
+pub fn place(unit: Unit, from: u64, to: u64) -> String {
+    let (unit, last) = (unit.name(), to - 1);
+    match from == last {
+        true => format!("{unit} {from}"),
+        false => format!("{unit}s {from} to {last}"),
+    }
+}
+
+/// A stretch in no frame, such as `bits 5120 to 7167: in no frame, 2048 bits`.
+pub fn gap_words(unit: Unit, gap: &Gap) -> String {
+    let what = match gap.first {
+        true => "before the first flag",
+        false => "in no frame",
+    };
+    let length = count(gap.length(), unit.name());
+    format!("{}: {what}, {length}", place(unit, gap.from, gap.to))
+}
+
+/// How much is in no frame; on a serial line also how much stands behind the last flag.
+pub fn free_words(account: &Account, behind: Option<u64>) -> String {
+    let free = count(account.free, account.unit.name());
+    let gaps = match account.gaps {
+        1 => "1 stretch".to_string(),
+        gaps => format!("{gaps} stretches"),
+    };
+    let behind = behind.map_or(String::new(), |behind| {
+        format!(", behind the last {behind}")
+    });
+    let before = account.before;
+    format!("in no frame: {free} in {gaps}\nbefore the first flag {before}{behind}")
+}
+
+/// How many losses and copies are known only modulo 8.
+pub fn modulo_words(places: u64) -> String {
+    format!("known only modulo 8: {}", count(places, "place"))
+}
+
+/// A message that is open at the end.
+pub fn unfinished_words(account: &Account, message: &Unfinished) -> String {
+    let (circuit, unit) = (account.circuit(message.number), account.unit.name());
+    let (received, length) = (message.open.received, message.open.length);
+    format!(
+        "{circuit}: open at the end, {received} of {length} bytes, begun by the frame before {unit} {}",
+        message.begun
+    )
+}
+
+/// What leaves no trace, so that nothing is told of it.
+pub fn untraced(unit: Unit, block: bool) -> Vec<&'static str> {
+    let missing = match unit {
+        Unit::Bit => "bits missing altogether",
+        Unit::Byte => "bytes missing altogether",
+    };
+    let mut untraced = vec![missing, "dropouts to flags"];
+    if unit == Unit::Bit && !block {
+        untraced.push("dropouts to ones behind a flag");
+    }
+    untraced
+}
+
+/// The same as text.
+pub fn untraced_words(unit: Unit, block: bool) -> String {
+    match untraced(unit, block)[..] {
+        [missing, flags, ones] => {
+            format!("No trace is left by {missing}, {flags} and,\nwithout --block, {ones}.")
+        }
+        ref all => format!("No trace is left by {}.", all.join(" and ")),
+    }
+}

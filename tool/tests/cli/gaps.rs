@@ -1,0 +1,620 @@
+//! Bits in no frame: told by decode and show, judged by `--strict`, and what they leave unknown.
+
+use std::io::{BufRead, BufReader, Write};
+use std::process::Stdio;
+
+use super::frames::{bits_of, bytes_of, framed};
+use super::runs::{objects, Folder};
+
+/// Forty messages of one packet in blocks of 256 bits, as `bits`; answers their bytes.
+fn forty(folder: &Folder) -> Vec<u8> {
+    let offers: String = (0..40)
+        .map(|number| format!("offer 0 0 0 \"charge {number:02}\"\nblock 256 256\n"))
+        .collect();
+    folder.write("plan", format!("circuits 01\n{offers}"));
+    assert_eq!(folder.run(&["encode", "plan", "-o", "bits"]).status, 0);
+    folder.read("bits")
+}
+
+/// The forty messages with so many blocks from block 20 on replaced by that byte, as `torn`.
+fn torn(name: &str, blocks: usize, byte: u8) -> Folder {
+    let folder = Folder::new(name);
+    let mut bits = forty(&folder);
+    bits[20 * 32..(20 + blocks) * 32].fill(byte);
+    folder.write("torn", &bits);
+    folder
+}
+
+/// What decode tells of bits with these options; the exit status has to be that of `--strict`, and else nothing changes with it.
+fn decoded(folder: &Folder, options: &[&str], strict: i32) -> String {
+    let arguments = [&["decode", "--circuits=01", "torn"], options].concat();
+    let told = folder.run(&arguments).told();
+    let ran = folder.run(&[&arguments[..], &["--strict"]].concat());
+    assert_eq!(String::from_utf8(ran.out).unwrap(), told);
+    assert_eq!(
+        (ran.status, ran.err.is_empty()),
+        (strict, strict == 0),
+        "{}",
+        ran.err
+    );
+    told
+}
+
+/// The same of bits, one in each place.
+fn decoded_bits(folder: &Folder, bits: &[bool], options: &[&str], strict: i32) -> String {
+    folder.write("torn", bytes_of(bits));
+    decoded(folder, options, strict)
+}
+
+/// What is said of the forty messages as they are.
+#[test]
+fn nothing_in_no_frame() {
+    let folder = Folder::new("gaps-none");
+    let bits = forty(&folder);
+    folder.write("torn", &bits);
+    for options in [&[][..], &["--block=256"], &["--json"]] {
+        decoded(&folder, options, 0);
+    }
+    let told = decoded(&folder, &[], 0);
+    assert_eq!(told.matches(", loss 0, Whole, ").count(), 40);
+    assert!(told.contains("\nin no frame: 0 bits in 0 stretches\nbefore the first flag 0\n"));
+    let arguments = ["show", "--circuits=01", "--block=256", "--strict", "bits"];
+    assert!(folder
+        .run(&arguments)
+        .told()
+        .contains("\nNo place went wrong.\n"));
+}
+
+/// Eight blocks zeroed look as if nothing were lost.
+#[test]
+fn eight_blocks_zeroed() {
+    let folder = torn("gaps-eight", 8, 0);
+    let told = decoded(&folder, &[], 3);
+    let lines = "\
+bits 5120 to 7167: in no frame, 2048 bits
+bit 7296: 01, loss 0 modulo 8 (2048 bits in no frame), Whole, length 9: \"charge 28\"
+bit 7552: 01, loss 0, Whole, ";
+    assert!(told.contains(lines), "{told}");
+    let totals = "
+in no frame: 2048 bits in 1 stretch
+before the first flag 0
+known only modulo 8: 1 place
+No trace is left by bits missing altogether, dropouts to flags and,
+without --block, dropouts to ones behind a flag.
+";
+    assert!(told.ends_with(totals), "{told}");
+    assert!(told.contains("\nlost                        0\nmodulo 8                    1\n"));
+    let ran = folder.run(&["decode", "--circuits=01", "--strict", "torn"]);
+    let faults = "1 place known only modulo 8, 2048 bits in no frame";
+    assert_eq!(ran.err, format!("aes18: torn: --strict: {faults}\n"));
+}
+
+#[test]
+fn eight_blocks_zeroed_in_json() {
+    let folder = torn("gaps-json", 8, 0);
+    let told = decoded(&folder, &["--json"], 3);
+    let lines = r#"
+{"gap":{"from":5120,"to":7168,"bits":2048}}
+{"bit":7296,"notice":"Circuit","number":0,"circuit":"01","loss":0,"modulo8":true,"gap_bits":2048,"fate":"Whole","length":9,"#;
+    assert!(told.contains(lines), "{told}");
+    let objects = objects(&told);
+    assert_eq!(objects.len(), 34);
+    let totals = &objects[33]["totals"];
+    let figures = ["before", "gaps", "gap_bits", "modulo8", "spoilt"];
+    let figures = figures.map(|figure| totals[figure].as_u64().unwrap());
+    assert_eq!(figures, [0, 1, 2048, 1, 0]);
+    assert_eq!(totals["circuits"][0]["modulo8"], 1);
+    assert_eq!(totals["untraced"].as_array().unwrap().len(), 3);
+}
+
+/// Seven blocks zeroed make a message that came look like a copy.
+#[test]
+fn seven_blocks_zeroed() {
+    let folder = torn("gaps-seven", 7, 0);
+    let told = decoded(&folder, &["--block=256"], 3);
+    let lines = "\
+bits 5120 to 6911: in no frame, 1792 bits
+bit 7040: 01, loss 0 modulo 8 (1792 bits in no frame), Copy
+";
+    assert!(told.contains(lines), "{told}");
+    assert!(
+        told.ends_with("\nNo trace is left by bits missing altogether and dropouts to flags.\n")
+    );
+    let told = decoded(&folder, &["--json"], 3);
+    let copy = r#""loss":0,"modulo8":true,"gap_bits":1792,"fate":"Copy"}"#;
+    assert!(told.contains(copy), "{told}");
+}
+
+/// One block zeroed is told, and its loss is known.
+#[test]
+fn one_block_zeroed() {
+    let folder = torn("gaps-one", 1, 0);
+    let told = decoded(&folder, &[], 3);
+    let lines = "\
+bits 5120 to 5375: in no frame, 256 bits
+bit 5504: 01, loss 1, Whole, ";
+    assert!(told.contains(lines), "{told}");
+}
+
+#[test]
+fn zeroed_blocks_shown() {
+    for (blocks, last, free, fate) in [(7, 6911, 1792, "Copy"), (8, 7167, 2048, "Whole, length 9")]
+    {
+        let folder = torn("gaps-shown", blocks, 0);
+        let arguments = ["show", "--circuits=01", "--block=256", "--width=80", "torn"];
+        let told = folder.run(&arguments).told();
+        let row = 20 + blocks;
+        let frame = 256 * row + 8;
+        let places = format!(
+            "\n2 places went wrong:\n  block 20, bits 5120 to {last}: in no frame, {free} bits\n  \
+             block {row}, bits {frame} to {}: 01, loss 0 modulo 8 ({free} bits in no frame), {fate}\n",
+            frame + 111
+        );
+        assert!(told.contains(&places), "{told}");
+        assert!(
+            told.contains("\n           ^0 modulo 8 lost of circuit 0\n"),
+            "{told}"
+        );
+        assert!(
+            told.contains(&format!("\n~  bits in no frame {free:>19}\n")),
+            "{told}"
+        );
+        assert!(told.contains("\nmodulo 8                    1\n"), "{told}");
+        let ran = folder.run(&[&arguments[..], &["--strict"]].concat());
+        assert_eq!((ran.status, String::from_utf8(ran.out).unwrap()), (3, told));
+        let svg = ["show", "--circuits=01", "--block=256", "--svg=-", "torn"];
+        let told = folder.run(&svg).told();
+        assert!(told.contains(">0 modulo 8 lost of 01</text>"), "{told}");
+    }
+}
+
+/// Figures and places are of what is shown, and what is known of a loss is of the whole pass.
+#[test]
+fn a_range_shown() {
+    let folder = torn("gaps-range", 8, 0);
+    let told = |from: &str, to: &str, status: i32| {
+        let range = [
+            "show",
+            "--circuits=01",
+            "--strict",
+            "--from",
+            from,
+            "--to",
+            to,
+            "torn",
+        ];
+        let ran = folder.run(&range);
+        let told = String::from_utf8(ran.out).unwrap();
+        assert_eq!(ran.status, status, "{told}");
+        told
+    };
+    assert!(told("0", "5120", 0).contains("\nNo place went wrong.\n"));
+    let all = told("5119", "5121", 3);
+    assert!(all.contains("\n1 place went wrong:\n  bits 5120 to 7167: in no frame, 2048 bits\n"));
+    let behind = told("7168", "10000", 3);
+    assert!(behind.contains("\n1 place went wrong:\n  bits 7176 to 7287: 01, loss 0 modulo 8 "));
+    assert!(told("7300", "10000", 0).contains("\nNo place went wrong.\n"));
+}
+
+/// Ones behind a flag are closing ones, with `--block` only up to the block's end. So a block in which nothing was sent is told, too.
+#[test]
+fn blocks_of_ones() {
+    let folder = torn("gaps-ones", 8, 0xFF);
+    let told = decoded(&folder, &[], 0);
+    assert!(
+        !told.contains(": in no frame")
+            && told.contains(", loss 0, Whole, length 9: \"charge 28\"")
+    );
+    let told = decoded(&folder, &["--block=256"], 3);
+    let lines = "\
+bits 5120 to 7167: in no frame, 2048 bits
+bit 7296: 01, loss 0 modulo 8 (2048 bits in no frame), Whole, ";
+    assert!(told.contains(lines), "{told}");
+    let show = |options: &[&str]| {
+        let arguments = [&["show", "--circuits=01", "--strict", "torn"], options].concat();
+        folder.run(&arguments).status
+    };
+    assert_eq!((show(&[]), show(&["--block=256"])), (0, 3));
+
+    let bits = [&framed(&[b"\x01\x80\x01a"])[..], &[true; 500]].concat();
+    decoded_bits(&folder, &bits, &[], 0);
+    let told = decoded_bits(&folder, &bits, &["--block=256"], 3);
+    let last = bits.len().next_multiple_of(8) - bits.len();
+    let free = bits.len() - 256 + last;
+    assert!(
+        told.contains(&format!(
+            "\nbits 256 to {}: in no frame, {free} bits\n",
+            255 + free
+        )),
+        "{told}"
+    );
+}
+
+/// Dropouts to flags leave no trace, nor do bits that are missing.
+#[test]
+fn no_trace() {
+    let folder = torn("gaps-flags", 8, 0x7E);
+    let told = decoded(&folder, &["--block=256"], 0);
+    assert!(
+        told.contains("\nin no frame: 0 bits in 0 stretches\n"),
+        "{told}"
+    );
+    let mut bits = folder.read("bits");
+    bits.drain(20 * 32..28 * 32);
+    folder.write("torn", &bits);
+    decoded(&folder, &["--block=256"], 0);
+}
+
+/// The packet of one byte at circuit 01 with that index, or at 02.
+fn packet(address: u8, index: u8) -> [u8; 4] {
+    [address, 0x80 | index << 2, 0x01, index]
+}
+
+/// Two frames with so many zeros between their flags.
+fn apart(zeros: usize, index: u8) -> Vec<bool> {
+    let frame = |index| framed(&[&packet(1, index)]);
+    [frame(0), vec![false; zeros], frame(index)].concat()
+}
+
+/// From 280 bits in no frame on a loss is known only modulo 8, and so is that a packet is a copy.
+#[test]
+fn seven_of_the_shortest_frames() {
+    let folder = Folder::new("gaps-280");
+    for (index, told_as) in [(0, "Copy"), (1, "Whole"), (4, "Whole")] {
+        let loss = u8::saturating_sub(index, 1);
+        for (zeros, modulo) in [(1, false), (279, false), (280, true), (281, true)] {
+            let told = decoded_bits(&folder, &apart(zeros, index), &[], 3);
+            let doubt = format!(" modulo 8 ({zeros} bits in no frame)");
+            let line = format!(
+                ": 01, loss {loss}{}, {told_as}",
+                if modulo { &doubt } else { "" }
+            );
+            assert!(told.contains(&line), "{line}: {told}");
+            let places = if modulo { "1 place\n" } else { "0 places\n" };
+            assert!(
+                told.contains(&format!("known only modulo 8: {places}")),
+                "{told}"
+            );
+        }
+    }
+}
+
+/// What lies between two packets of a circuit is added up, whatever else lies between them; the first of a circuit is never in doubt.
+#[test]
+fn stretches_are_added_up() {
+    let folder = Folder::new("gaps-sum");
+    let frame = |address, index| framed(&[&packet(address, index)]);
+    let zeros = |count| vec![false; count];
+    let bits = [
+        frame(1, 0),
+        zeros(100),
+        frame(2, 0),
+        zeros(100),
+        framed(&[b"\x03\x80\x01a"]),
+        zeros(79),
+        frame(1, 1),
+        zeros(1),
+        frame(2, 1),
+        zeros(279),
+        frame(1, 2),
+    ];
+    folder.write("torn", bytes_of(&bits.concat()));
+    let told = folder.run(&["decode", "--circuits=01,02", "torn"]).told();
+    let notices: Vec<&str> = told
+        .lines()
+        .filter(|line| line.contains(", loss ") || line.contains(": Elsewhere"))
+        .map(|line| line.split_once(": ").unwrap().1)
+        .collect();
+    let whole = "Whole, length 1: 0";
+    let expected = [
+        format!("01, loss 0, {whole}0"),
+        format!("02, loss 0, {whole}0"),
+        "Elsewhere, 03".to_string(),
+        format!("01, loss 0, {whole}1"),
+        format!("02, loss 0, {whole}1"),
+        format!("01, loss 0 modulo 8 (280 bits in no frame), {whole}2"),
+    ];
+    assert_eq!(notices, expected);
+    assert!(
+        told.contains("\nin no frame: 559 bits in 5 stretches\n"),
+        "{told}"
+    );
+    assert!(
+        told.contains("\nmodulo 8                    1                0\n"),
+        "{told}"
+    );
+}
+
+/// A copy ends what is added up before it.
+#[test]
+fn a_copy_is_heard() {
+    let folder = Folder::new("gaps-copy");
+    let frame = |index| framed(&[&packet(1, index)]);
+    let bits = [
+        frame(0),
+        vec![false; 200],
+        frame(0),
+        vec![false; 200],
+        frame(1),
+    ]
+    .concat();
+    let told = decoded_bits(&folder, &bits, &[], 3);
+    assert!(told.contains("known only modulo 8: 0 places"), "{told}");
+    assert!(
+        told.contains("\nin no frame: 400 bits in 2 stretches\n"),
+        "{told}"
+    );
+}
+
+/// Spoilt and short bodies are in the stretch, with the flags that border nothing else.
+#[test]
+fn spoilt_bodies() {
+    let folder = Folder::new("gaps-spoilt");
+    let frame = framed(&[&packet(1, 0)]);
+    let mut spoilt = frame[8..frame.len() - 8].to_vec();
+    spoilt[3] ^= true;
+    let flag = bits_of(&[0x7E]);
+    let (start, length) = (frame.len(), spoilt.len());
+    let bits = [
+        &frame[..],
+        &spoilt,
+        &flag,
+        &[false, true, false],
+        &flag,
+        &spoilt,
+        &frame,
+    ]
+    .concat();
+    let told = decoded_bits(&folder, &bits, &[], 3);
+    let last = start + 2 * length + 8 + 3 + 8 - 1;
+    assert!(
+        told.contains(&format!("\nbits {start} to {last}: in no frame, ")),
+        "{told}"
+    );
+    assert_eq!(told.matches(": Spoilt\n").count(), 2, "{told}");
+    let bits = [&frame[..], &spoilt, &flag, &flag, &spoilt, &frame].concat();
+    let told = decoded_bits(&folder, &bits, &[], 3);
+    assert!(
+        told.contains(&format!(
+            "\nin no frame: {} bits in 2 stretches\n",
+            2 * length
+        )),
+        "{told}"
+    );
+}
+
+/// A recording may begin inside a frame: that is told, and `--strict` lets it pass. Where there is no flag at all, it does not.
+#[test]
+fn before_the_first_flag() {
+    let folder = Folder::new("gaps-before");
+    let frame = framed(&[&packet(1, 0)]);
+    let bits = [&frame[13..], &[true; 20], &frame].concat();
+    let before = frame.len() - 13 - 8;
+    let told = decoded_bits(&folder, &bits, &[], 0);
+    let line = format!(
+        "bits 0 to {}: before the first flag, {before} bits\n",
+        before - 1
+    );
+    assert!(told.starts_with(&line), "{told}");
+    assert!(
+        told.contains(&format!("\nbefore the first flag {before}\n")),
+        "{told}"
+    );
+    let told = decoded_bits(&folder, &bits, &["--json"], 0);
+    let line =
+        format!(r#"{{"gap":{{"from":0,"to":{before},"bits":{before},"before_first_flag":true}}}}"#);
+    assert_eq!(told.lines().next(), Some(line.as_str()));
+    let shown = folder
+        .run(&["show", "--circuits=01", "--strict", "torn"])
+        .told();
+    let place = format!(
+        "\nNo place went wrong.\nbits 0 to {}: before the first flag, ",
+        before - 1
+    );
+    assert!(shown.contains(&place), "{shown}");
+    for byte in [0x00, 0x55, 0xFF] {
+        folder.write("torn", [byte; 10]);
+        let told = decoded(&folder, &["--quiet"], 3);
+        assert!(
+            told.starts_with("bits 0 to 79: in no frame, 80 bits\n"),
+            "{told}"
+        );
+    }
+}
+
+/// Up to seven zeros that end a file behind closing ones or a flag are spare bits.
+#[test]
+fn spare_zeros() {
+    let folder = Folder::new("gaps-spare");
+    let frame = framed(&[&packet(1, 0)]);
+    for ones in 0..10 {
+        let bits = [&frame[..], &vec![true; ones]].concat();
+        decoded_bits(&folder, &bits, &[], 0);
+        let told = decoded_bits(&folder, &[&bits[..], &[false; 8]].concat(), &[], 3);
+        assert!(told.contains("\nin no frame: "), "{told}");
+    }
+}
+
+/// The packets of a message of 40 bytes: 14, 16 and 10 of them.
+fn message(index: u8) -> [Vec<u8>; 3] {
+    let control = |link: u8, index: u8| link << 6 | (index & 7) << 2;
+    [
+        [&[1, control(2, index), 0x10, 0x28][..], &[b'a'; 14]].concat(),
+        [&[1, control(0, index + 1)][..], &[b'b'; 16]].concat(),
+        [&[1, control(1, index + 2)][..], &[b'c'; 10]].concat(),
+    ]
+}
+
+/// A message open at the end of the file is named.
+#[test]
+fn open_at_the_end() {
+    let folder = Folder::new("gaps-open");
+    let [begun, held, last] = message(0);
+    let place = framed(&[&begun]).len();
+    for (packets, received) in [(&[&begun[..]][..], 14), (&[&begun[..], &held], 30)] {
+        let told = decoded_bits(&folder, &framed(packets), &[], 3);
+        let line = format!(
+            "\n01: open at the end, {received} of 40 bytes, begun by the frame before bit {place}\n"
+        );
+        assert!(told.contains(&line), "{told}");
+        let told = decoded_bits(&folder, &framed(packets), &["--json"], 3);
+        let open = format!(
+            r#""open":[{{"number":0,"circuit":"01","received":{received},"length":40,"bit":{place}}}]"#
+        );
+        assert!(told.contains(&open), "{told}");
+        let ran = folder.run(&["show", "--circuits=01", "--strict", "torn"]);
+        assert_eq!(ran.status, 3);
+        assert_eq!(
+            ran.err,
+            "aes18: torn: --strict: 1 message open at the end\n"
+        );
+        assert!(String::from_utf8(ran.out).unwrap().contains(&line));
+    }
+    let told = decoded_bits(&folder, &framed(&[&begun, &held, &last]), &[], 0);
+    assert!(!told.contains("open at the end"), "{told}");
+}
+
+/// A message begun is dropped by a loss, by a packet that is wrong, by another beginning and by a message of one packet; a copy drops nothing.
+#[test]
+fn dropped_messages() {
+    let folder = Folder::new("gaps-dropped");
+    let [begun, held, last] = message(0);
+    let short = [&[1, 0x04][..], &[b'b'; 15]].concat();
+    let again = &message(1)[0];
+    let cases: [(&[&[u8]], &str, usize); 6] = [
+        (&[&begun, &begun, &held, &held, &last], "", 0),
+        (&[&begun, &last], "loss 1, message dropped, Orphan", 0),
+        (&[&begun, &short], "loss 0, message dropped, Wrong", 0),
+        (&[&begun, again], "loss 0, message dropped, Begun", 1),
+        (
+            &[&begun, &packet(1, 1)],
+            "loss 0, message dropped, Whole, length 1: 01",
+            0,
+        ),
+        (
+            &[&begun, &packet(1, 3)],
+            "loss 2, message dropped, Whole, length 1: 03",
+            0,
+        ),
+    ];
+    for (packets, words, open) in cases {
+        let dropped = usize::from(!words.is_empty());
+        let strict = if dropped > 0 { 3 } else { 0 };
+        let told = decoded_bits(&folder, &framed(packets), &[], strict);
+        assert!(told.contains(words), "{told}");
+        assert!(
+            told.contains(&format!("\ndropped     {dropped:17}\n")),
+            "{told}"
+        );
+        assert_eq!(told.matches(": open at the end, ").count(), open, "{told}");
+        let json = decoded_bits(&folder, &framed(packets), &["--json"], strict);
+        assert_eq!(
+            json.matches(r#","dropped":true,"fate":"#).count(),
+            dropped,
+            "{json}"
+        );
+        let shown = folder.run(&["show", "--circuits=01", "torn"]).told();
+        assert_eq!(
+            shown.contains("No place went wrong"),
+            dropped == 0,
+            "{shown}"
+        );
+    }
+}
+
+/// Bits that come in parts, cut anywhere, are told the same.
+#[test]
+fn every_cut() {
+    let folder = Folder::new("gaps-cuts");
+    let frame = |index| framed(&[&packet(1, index)]);
+    let bits = [
+        vec![false, true, false],
+        frame(0),
+        vec![false; 5],
+        bits_of(&[0x7E]),
+        vec![true; 30],
+        vec![false; 300],
+        frame(1),
+        vec![true; 3],
+        vec![false; 9],
+    ];
+    let bytes = bytes_of(&bits.concat());
+    folder.write("torn", &bytes);
+    let expected = decoded(&folder, &["--block=256"], 3);
+    for cut in 0..=bytes.len() {
+        let parts = [&bytes[..cut], &bytes[cut..]];
+        assert_eq!(piped(&folder, &parts), expected, "{cut}");
+    }
+    let parts: Vec<&[u8]> = bytes.chunks(1).collect();
+    assert_eq!(piped(&folder, &parts), expected);
+}
+
+/// What decode tells of parts that come one by one.
+fn piped(folder: &Folder, parts: &[&[u8]]) -> String {
+    let mut child = folder
+        .command(&["decode", "--circuits=01", "--block=256", "-"])
+        .stdin(Stdio::piped())
+        .stdout(Stdio::piped())
+        .spawn()
+        .unwrap();
+    let mut stdin = child.stdin.take().unwrap();
+    for part in parts {
+        stdin.write_all(part).unwrap();
+        stdin.flush().unwrap();
+        std::thread::sleep(std::time::Duration::from_millis(2));
+    }
+    drop(stdin);
+    let output = child.wait_with_output().unwrap();
+    String::from_utf8(output.stdout).unwrap()
+}
+
+/// A stretch is told as soon as its end is known: at closing ones behind the flag that ends it, or at the frame behind it.
+#[test]
+fn told_as_it_comes() {
+    let folder = Folder::new("gaps-piped");
+    let mut child = folder
+        .command(&["decode", "--circuits=01", "-"])
+        .stdin(Stdio::piped())
+        .stdout(Stdio::piped())
+        .spawn()
+        .unwrap();
+    let mut stdin = child.stdin.take().unwrap();
+    let mut told = BufReader::new(child.stdout.take().unwrap()).lines();
+    let mut send = |bytes: &[u8]| {
+        stdin.write_all(bytes).unwrap();
+        stdin.flush().unwrap();
+    };
+    let mut line = || told.next().unwrap().unwrap();
+    send(&[0x55, 0x7E]);
+    assert_eq!(line(), "bits 0 to 7: before the first flag, 8 bits");
+    send(&[0xFF, 0x00, 0x00, 0x7E, 0xFF]);
+    assert_eq!(line(), "bits 24 to 39: in no frame, 16 bits");
+    send(&[&[0x00][..], &bytes_of(&framed(&[&[1, 0x80, 0x00]]))].concat());
+    assert_eq!(line(), "bits 56 to 63: in no frame, 8 bits");
+    assert_eq!(line(), "bit 120: 01, loss 0, Whole, length 0: \"\"");
+    drop(stdin);
+    child.wait().unwrap();
+}
+
+#[test]
+fn wrong_options() {
+    let folder = Folder::new("gaps-options");
+    let see = "See aes18 decode --help.\n";
+    for (option, message) in [
+        (
+            "--block=255",
+            "--block: expected a number from 256 to 27000, not '255'",
+        ),
+        (
+            "--block=27001",
+            "--block: expected a number from 256 to 27000, not '27001'",
+        ),
+        ("--strict=yes", "the option --strict takes no value"),
+    ] {
+        let ran = folder.run(&["decode", "--circuits=01", option, "bits"]);
+        ran.failed(2, &format!("aes18: {message}\n{see}"));
+    }
+    let ran = folder.run(&["decode", "--circuits=01", "--line", "--block=256", "line"]);
+    let message = "--block does not go with --line";
+    ran.failed(2, &format!("aes18: {message}\n{see}"));
+}
