@@ -4,6 +4,13 @@
 use aes18::Notice;
 
 use crate::account::Heard;
+use crate::frames::{FLAG, FLAG_BITS};
+
+/// Flags behind each other, eight of them: of eight bits each, and of seven where each begins with the last bit of the one before it.
+const WHOLE: u64 = u64::from_le_bytes([FLAG; 8]);
+const WHOLE_BITS: u64 = 8 * FLAG_BITS;
+const SHARED: u64 = 0x7E_FDFB_F7EF_DFBF;
+const SHARED_BITS: u64 = 7 * FLAG_BITS;
 
 /// What a stretch of bits is.
 #[derive(Clone, Copy, Debug, PartialEq, Eq)]
@@ -14,6 +21,7 @@ pub enum Kind {
     Idle,
     /// Other bits that gave no notice: void, too few, or behind the last flag. Where there is no flag, all are.
     Void,
+    /// A flag or, where not each is a stretch of its own, flags behind each other.
     Flag,
     /// The bits between two flags that gave this notice.
     Body(Heard),
@@ -65,6 +73,8 @@ pub struct Extents {
     block: Option<u64>,
     /// Whether the last byte may have spare bits.
     spare: bool,
+    /// Whether each flag is a stretch of its own.
+    pub each_flag: bool,
     /// How many bits are followed.
     at: u64,
     /// The first bit that is in no known stretch.
@@ -84,6 +94,7 @@ impl Extents {
             known: Vec::new(),
             block,
             spare,
+            each_flag: false,
             at: 0,
             from: 0,
             place: Place::Before,
@@ -119,15 +130,21 @@ impl Extents {
         }
     }
 
-    /// Follows the next eight bytes or the next byte at once, where these are whole ones and nothing ends in them; answers how many bits that was.
+    /// Follows the next eight bytes or the next byte at once, where these are whole ones and nothing but flags ends in them; answers how many bits that
+    /// was.
     fn plain(&mut self, bytes: &[u8], bit: u64, to: u64) -> u64 {
         if bit % 8 != 0 {
             return 0;
         }
         let here = &bytes[(bit / 8) as usize..(to / 8) as usize];
         if let Some(eight) = here.first_chunk::<8>() {
-            if self.take(u64::from_le_bytes(*eight), 64) {
+            let bits = u64::from_le_bytes(*eight);
+            if self.take(bits, 64) {
                 return 64;
+            }
+            let flags = self.take_flags(bits);
+            if flags > 0 {
+                return flags;
             }
         }
         match here.first() {
@@ -156,6 +173,38 @@ impl Extents {
         };
         self.at += u64::from(count);
         true
+    }
+
+    /// Follows flags behind a flag at once, which are one stretch, where these bits are nothing else; answers how many bits that was.
+    fn take_flags(&mut self, bits: u64) -> u64 {
+        let begun = self.at - self.from;
+        if self.each_flag || self.place != Place::Body || begun >= FLAG_BITS {
+            return 0;
+        }
+        let whole = begun == 0 || self.zero == self.from && self.ones == begun - 1;
+        let shared = self.zero == u64::MAX && self.ones == begun;
+        let count = if whole && bits == WHOLE.rotate_right(begun as u32) {
+            WHOLE_BITS
+        } else if shared && bits << 8 == shared_from(begun) << 8 {
+            SHARED_BITS
+        } else {
+            return 0;
+        };
+        self.join_flags(self.from + count);
+        self.at += count;
+        self.zero = self.zero.saturating_add(count);
+        count
+    }
+
+    /// The bits up to the bit `to` are flags, in one stretch with others that are more than one.
+    fn join_flags(&mut self, to: u64) {
+        match self.known.last_mut() {
+            Some(last) if last.kind == Kind::Flag && last.to - last.from > FLAG_BITS => {
+                last.to = to;
+                self.from = to;
+            }
+            _ => self.cut(to, Kind::Flag),
+        }
     }
 
     /// So many ones. The seventh in a row voids a body; where they stand directly behind the flag they are closing ones.
@@ -259,6 +308,11 @@ impl Extents {
             self.from = to;
         }
     }
+}
+
+/// Flags that share zeros, from that bit of the first on, its shared zero not counted.
+fn shared_from(bit: u64) -> u64 {
+    SHARED >> bit | SHARED << (SHARED_BITS - bit)
 }
 
 #[cfg(test)]
@@ -400,6 +454,7 @@ mod tests {
             state = state.wrapping_mul(1_664_525).wrapping_add(1_013_904_223);
             state >> 16
         };
+        let mut joins = 0;
         for trial in 0..400 {
             // Bytes with many flags, ones and zeros in them, at all places.
             let mut bytes: Vec<u8> = (0..100)
@@ -410,18 +465,51 @@ mod tests {
                 .collect();
             let start = random() as usize % 80;
             bytes[start..start + 20].fill([0x00, 0xFF, 0x55][trial % 3]);
+            fill_with_flags(&mut bytes, trial, random() as usize % 700);
             let block = [None, Some(64), Some(100)][random() as usize % 3];
-            let mut at_once = Extents::new(block, true);
-            let mut by_bits = Extents::new(block, true);
+            let [mut at_once, mut by_bits, mut joined] = [0; 3].map(|_| Extents::new(block, true));
+            at_once.each_flag = true;
             let mut from = 0;
             while from < 800 {
                 let to = (from + 1 + u64::from(random() % 300)).min(800);
                 at_once.follow(&bytes, from, to, None);
+                joined.follow(&bytes, from, to, None);
                 (from..to).for_each(|bit| by_bits.follow(&bytes, bit, bit + 1, None));
                 assert_eq!(at_once.is_idle(), by_bits.is_idle());
+                assert_eq!(joined.is_idle(), by_bits.is_idle());
                 from = to;
             }
+            assert_eq!(in_runs(&joined.known), in_runs(&by_bits.known));
+            joins += usize::from(joined.known.len() < by_bits.known.len());
             assert_eq!(letters(at_once), letters(by_bits), "{bytes:02X?}");
+            letters(joined);
         }
+        assert!(joins > 300, "{joins}");
+    }
+
+    /// Flags of eight bits, or such as share zeros, from that bit on.
+    fn fill_with_flags(bytes: &mut [u8], trial: usize, from: usize) {
+        let flag = [0, 1, 1, 1, 1, 1, 1, 0];
+        let period = 7 + trial % 2;
+        for number in 0..90 + trial % 100 {
+            let (byte, place) = ((from + number) / 8, (from + number) % 8);
+            if let Some(byte) = bytes.get_mut(byte) {
+                *byte = *byte & !(1 << place) | flag[number % period] << place;
+            }
+        }
+    }
+
+    /// Stretches in which flags behind each other are one; of these it counts whether they are one or more.
+    fn in_runs(stretches: &[Stretch]) -> Vec<(u64, u64, Kind, bool)> {
+        let mut runs: Vec<(u64, u64, Kind, bool)> = Vec::new();
+        for Stretch { from, to, kind } in stretches.iter().copied() {
+            match runs.last_mut() {
+                Some(last) if kind == Kind::Flag && last.2 == Kind::Flag => {
+                    (last.1, last.3) = (to, true);
+                }
+                _ => runs.push((from, to, kind, to - from > FLAG_BITS)),
+            }
+        }
+        runs
     }
 }

@@ -43,6 +43,12 @@ impl Pass {
         })
     }
 
+    /// The same with a stretch for each flag, where flags behind each other may be one.
+    pub fn with_each_flag(mut self) -> Pass {
+        self.extents.each_flag = true;
+        self
+    }
+
     /// Reads the bits `from..to` of the bytes up to the first notice, or not all of them.
     pub fn read(&mut self, bytes: &[u8], from: u64, to: u64) -> Result<Told, Error> {
         let told = self.listener.read(bytes, from, to.min(from + MOST))?;

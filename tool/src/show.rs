@@ -193,7 +193,7 @@ fn draw(
     let block = layout.blocks.then_some(layout.row);
     let mut drawing = Drawing {
         layout,
-        pass: Pass::new(&options.circuits, block, options.formats.spare())?,
+        pass: Pass::new(&options.circuits, block, options.formats.spare())?.with_each_flag(),
         tally: Tally::new(&options.circuits, options.places),
         draw,
     };
