@@ -215,6 +215,17 @@ bit 7296: 01, loss 0 modulo 8 (2048 bits in no frame), Whole, ";
         folder.run(&arguments).status
     };
     assert_eq!((show(&[]), show(&["--block=256"])), (0, 3));
+    let scan = |options: &[&str]| folder.run(&[&["scan", "torn"], options].concat()).told();
+    assert!(scan(&[]).contains("\nin no frame: 0 bits in 0 stretches\n"));
+    let told = scan(&["--block=256"]);
+    let lines = "
+in no frame: 2048 bits in 1 stretch
+before the first flag 0
+known only modulo 8: 1 place
+  bits 5120 to 7167: in no frame, 2048 bits
+No trace is left by bits missing altogether and dropouts to flags.
+";
+    assert!(told.ends_with(lines), "{told}");
 
     let bits = [&framed(&[b"\x01\x80\x01a"])[..], &[true; 500]].concat();
     decoded_bits(&folder, &bits, &[], 0);
@@ -617,4 +628,172 @@ fn wrong_options() {
     let ran = folder.run(&["decode", "--circuits=01", "--line", "--block=256", "line"]);
     let message = "--block does not go with --line";
     ran.failed(2, &format!("aes18: {message}\n{see}"));
+}
+
+/// The forty messages with so many blocks from block 20 on zeroed, as `torn`, and the same as `capture` in its left channel, whose right channel has
+/// forty other messages.
+fn torn_capture(name: &str, blocks: usize) -> Folder {
+    let folder = torn(name, blocks, 0);
+    let plan = String::from_utf8(folder.read("plan")).unwrap();
+    let other = plan.replace("circuits 01", "circuits 05");
+    folder.write("other", other.replace("charge", "switch"));
+    let into = ["--format=iec958", "--channel=right", "--into=left"];
+    for (options, plan, file) in [
+        (&into[..1], "plan", "left"),
+        (&into, "other", "capture"),
+        (&[], "other", "other.bits"),
+    ] {
+        let arguments = [&["encode", "-q", plan, "-o", file], options].concat();
+        assert_eq!(folder.run(&arguments).told(), "");
+    }
+    let mut capture = folder.read("capture");
+    for frame in 20 * 256..(20 + blocks) * 256 {
+        capture[8 * frame + 3] &= !0x20;
+    }
+    folder.write("capture", capture);
+    folder
+}
+
+/// What a run tells, by its status and without the name of the file, and what it says on the standard error.
+fn told(folder: &Folder, arguments: &[&str], file: &str) -> (i32, String, String) {
+    let ran = folder.run(&[arguments, &[file]].concat());
+    let out = String::from_utf8(ran.out).unwrap();
+    let named = |text: &str| text.replace(&format!("{file}: "), "file: ");
+    (ran.status, named(&out), named(&ran.err))
+}
+
+/// The dropout is told by every subcommand, out of bits and out of a capture whose other channel is whole, with circuits listed or not.
+#[test]
+fn the_dropout_everywhere() {
+    for (blocks, last, fate) in [
+        (8, 7167, "Whole, length 9"),
+        (7, 6911, "Copy"),
+        (0, 0, "Whole"),
+    ] {
+        let folder = torn_capture(&format!("gaps-everywhere-{blocks}"), blocks);
+        let gap = format!("bits 5120 to {last}: in no frame, {} bits\n", 256 * blocks);
+        let mark = format!(
+            ": 01, loss 0 modulo 8 ({} bits in no frame), {fate}",
+            256 * blocks
+        );
+        let object = format!(r#"{{"gap":{{"from":5120,"to":{},"#, last + 1);
+        for circuits in [&[][..], &["--circuits=01"]] {
+            let decode = [&["decode"], circuits].concat();
+            let json = [&["decode", "--json"], circuits].concat();
+            let show = [&["show", "--width=80"], circuits].concat();
+            let cases: [(&[&str], &[&str]); 5] = [
+                (&decode, &[&gap, &mark, "modulo 8: 1 place\n"]),
+                (&json, &[&object, r#""loss":0,"modulo8":true,"#]),
+                (&show, &[&gap, &mark, "modulo 8                    1\n"]),
+                (&["scan"], &[&gap, "modulo 8: 1 place\n"]),
+                (&["scan", "--json"], &[&object, r#""modulo8":1,"from":0"#]),
+            ];
+            for (arguments, parts) in cases {
+                let bits = told(&folder, arguments, "torn");
+                for part in parts {
+                    assert_eq!(bits.1.contains(part), blocks > 0, "{part}: {}", bits.1);
+                }
+                let arguments = [arguments, &["--format=iec958"]].concat();
+                assert_eq!(told(&folder, &arguments, "capture"), bits);
+                let right = [&arguments[..], &["--channel=right"]].concat();
+                let right = told(&folder, &right, "capture");
+                assert!(!right.1.contains("bits 5120 to"), "{}", right.1);
+            }
+        }
+    }
+}
+
+/// `--strict` ends with 3 at the dropout and with 0 without it, by every way to the bits.
+#[test]
+fn strict_everywhere() {
+    for blocks in [0, 7, 8] {
+        let folder = torn_capture(&format!("gaps-strict-{blocks}"), blocks);
+        let left: &[&str] = &["--format=iec958", "capture"];
+        let right: &[&str] = &["--format=iec958", "--channel=right", "capture"];
+        let status = if blocks > 0 { 3 } else { 0 };
+        for subcommand in [&["decode"][..], &["decode", "--json"], &["show"]] {
+            for (file, expected) in [(&["torn"][..], status), (left, status), (right, 0)] {
+                for options in [&[][..], &["--circuits=01,05"], &["--block=256"]] {
+                    let arguments = [subcommand, &["--strict", "-q"], options, file].concat();
+                    let ran = folder.run(&arguments);
+                    assert_eq!(ran.status, expected, "{arguments:?}: {}", ran.err);
+                    assert_eq!(ran.err.contains(": --strict: "), expected == 3);
+                }
+            }
+        }
+    }
+}
+
+/// The address of a packet of a circuit that is not listed, in decode and in the picture.
+#[test]
+fn elsewhere_by_its_address() {
+    let folder = Folder::new("gaps-elsewhere");
+    let packets: [&[u8]; 2] = [b"\x7E\x80\x01a", b"\x02\xA1\x07\x01a"];
+    folder.write("bits", bytes_of(&framed(&packets)));
+    let decoded = folder.run(&["decode", "--circuits=01", "bits"]).told();
+    let drawn = folder
+        .run(&["show", "--circuits=01", "--svg=-", "bits"])
+        .told();
+    for address in ["7E", "02:07"] {
+        assert!(decoded.contains(&format!(": Elsewhere, {address}\n")));
+        assert!(
+            drawn.contains(&format!(": Elsewhere, {address}</title>")),
+            "{drawn}"
+        );
+    }
+}
+
+/// A circuit's stretches are added up by scan between any two of its packets, copies too, from 280 bits on.
+#[test]
+fn doubts_of_a_scan() {
+    let folder = Folder::new("gaps-scan");
+    for (free, modulo) in [(279, 0), (280, 1)] {
+        let frames = |packets: &[&[u8]]| framed(packets);
+        let bits = [
+            frames(&[b"\x01\x80\x01a", b"\x02\x80\x01a"]),
+            vec![false; free],
+            frames(&[b"\x02\x80\x01a"]),
+            frames(&[b"\x02\x84\x01b"]),
+            frames(&[b"\x01\x84\x01b"]),
+        ];
+        folder.write("bits", bytes_of(&bits.concat()));
+        let objects = objects(&folder.run(&["scan", "--json", "bits"]).told());
+        let figure = |object: usize, name: &str| objects[object][name].as_u64().unwrap();
+        assert_eq!(objects[0]["gap"]["bits"], free);
+        assert_eq!(
+            [figure(1, "modulo8"), figure(2, "modulo8")],
+            [modulo, modulo]
+        );
+        assert_eq!([figure(2, "packets"), figure(2, "copies")], [2, 1]);
+        let totals = &objects[3]["totals"];
+        assert_eq!(totals["modulo8"], 2 * modulo);
+        assert_eq!(
+            (&totals["gaps"], &totals["gap_bits"]),
+            (&1.into(), &free.into())
+        );
+    }
+}
+
+/// The first forty stretches are listed by scan, all of them to programs; what stands before the first flag is one of them.
+#[test]
+fn many_stretches_of_a_scan() {
+    let folder = Folder::new("gaps-many");
+    let frame = framed(&[&packet(1, 0)]);
+    for (stretches, before, more) in [(40, 0, ""), (41, 0, "1"), (42, 5, "3")] {
+        let mut bits = vec![false; before];
+        bits.extend(&frame);
+        (0..stretches).for_each(|_| bits.extend([&[false; 9][..], &frame].concat()));
+        folder.write("bits", bytes_of(&bits));
+        let text = folder.run(&["scan", "bits"]).told();
+        let listed = text
+            .lines()
+            .filter(|line| line.starts_with("  bits "))
+            .count();
+        assert_eq!(listed, 40, "{text}");
+        let words = format!("\n  and {more} more (aes18 decode tells them)\n");
+        assert_eq!(text.contains(&words), !more.is_empty(), "{text}");
+        let objects = objects(&folder.run(&["scan", "--json", "bits"]).told());
+        let gaps = objects.iter().filter(|object| object["gap"].is_object());
+        assert_eq!(gaps.count(), stretches + usize::from(before > 0));
+    }
 }

@@ -225,6 +225,10 @@ fn given_twice() {
                 &["show", "--color=auto", "--color=never", "a"],
                 "--color is given twice",
             ),
+            (
+                &["scan", "--block=256", "--block=256", "a"],
+                "--block is given twice",
+            ),
         ],
     );
 }
