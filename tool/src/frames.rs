@@ -1,6 +1,6 @@
 //! Frames of packets, in user bits and on the serial line. The FCS of a packet is taken from the frame that the library writes for the line.
 
-use aes18::{write_line, Body, Framing, Packet, Refusal, LONGEST_LINE_FRAME};
+use aes18::{write_line, Framing, Packet, Refusal, Stop, LONGEST_LINE_FRAME};
 
 /// A flag, as a byte of the line and as eight user bits.
 pub const FLAG: u8 = 0x7E;
@@ -78,9 +78,9 @@ pub fn packet(
     from: u64,
     to: u64,
 ) -> Result<Option<Packet>, Refusal> {
-    match framing.read(bytes, from, to)?.body {
-        Body::Packet(packet) => Ok(Some(packet)),
-        Body::Spoilt | Body::End => Ok(None),
+    match framing.read(bytes, from, to)?.stop {
+        Stop::Packet(packet) => Ok(Some(packet)),
+        Stop::Spoilt | Stop::End => Ok(None),
     }
 }
 

@@ -3,7 +3,7 @@
 use std::ffi::OsString;
 use std::io::{self, Write};
 
-use aes18::{Body, Framing, Refusal};
+use aes18::{Framing, Refusal, Stop};
 
 use crate::args::{self, Arg, Args};
 use crate::draft::Draft;
@@ -130,10 +130,10 @@ impl Lining {
         loop {
             let read = self.framing.read(bytes, from, to)?;
             from += read.bits;
-            match read.body {
-                Body::End => return Ok(frames),
-                Body::Spoilt => self.spoilt += 1,
-                Body::Packet(packet) => {
+            match read.stop {
+                Stop::End => return Ok(frames),
+                Stop::Spoilt => self.spoilt += 1,
+                Stop::Packet(packet) => {
                     self.packets += 1;
                     frames.extend(frames::on_line(&packet)?);
                 }

@@ -3,7 +3,7 @@
 use std::ffi::OsStr;
 use std::fs;
 
-use aes18::{Body, Framing, Refusal};
+use aes18::{Framing, Refusal, Stop};
 
 use super::Formats;
 use crate::error::Error;
@@ -62,10 +62,10 @@ fn passing(framing: &mut Framing, chunk: &Chunk<'_>) -> Result<u64, Refusal> {
     loop {
         let read = framing.read(chunk.bytes, from, chunk.bits)?;
         from += read.bits;
-        match read.body {
-            Body::End => return Ok(frames),
-            Body::Spoilt => {}
-            Body::Packet(_) => frames += 1,
+        match read.stop {
+            Stop::End => return Ok(frames),
+            Stop::Spoilt => {}
+            Stop::Packet(_) => frames += 1,
         }
     }
 }
