@@ -163,7 +163,7 @@ def notices_of_line(line, dropped):
     """The same of a line in which all bytes stand between flags and so many frames are dropped."""
     (WORK / "line").write_bytes(line)
     told, totals = decoded("--line", WORK / "line")
-    expected = {"bytes": len(line), "before": 0, "behind": 0, "dropped": dropped}
+    expected = {"bytes": len(line), "before": 0, "behind": 0, "dropped_frames": dropped}
     found = {name: totals[name] for name in expected}
     if found != expected:
         fail("decode --line counts %s, not %s" % (found, expected))

@@ -50,6 +50,8 @@ pub struct Account {
     pub gaps: u64,
     pub free: u64,
     pub before: u64,
+    /// Packets of circuits that are not listed whose loss, or which as a copy, is known only modulo 8, where these are surveyed.
+    pub unlisted: u64,
     /// The messages open at the end.
     pub unfinished: Vec<Unfinished>,
     /// What the totals do not have of each circuit, by number.
@@ -85,6 +87,7 @@ impl Account {
             gaps: 0,
             free: 0,
             before: 0,
+            unlisted: 0,
             unfinished: Vec::new(),
             circuits: circuits.iter().copied().map(Packets::new).collect(),
             totals: Totals::empty(),
@@ -127,7 +130,8 @@ impl Account {
 
     /// How many packets' losses and copies are known only modulo 8.
     pub fn modulo(&self) -> u64 {
-        self.circuits.iter().map(|packets| packets.modulo).sum()
+        let listed = self.circuits.iter().map(|packets| packets.modulo);
+        self.unlisted + listed.sum::<u64>()
     }
 
     /// What `--strict` does not let pass, in words; none where there is nothing.

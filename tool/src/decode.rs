@@ -134,7 +134,7 @@ them; without one of these it is the other channel than that of the word before
 it, and the first word is left. Bits are numbered within the channel.
 
 Where no frame passes, a warning on the standard error says how many do in other
-formats and channels.
+formats and channels, and with --line how many if LINE is read as user bits.
 
 LINE has the octet-stuffed frames of RFC 1662, or - is the standard input. A
 packet on it is told as it would be out of user bits. Its place is how many
@@ -143,11 +143,17 @@ byte behind the closing flag. The totals have the bytes read in place of the
 bits, and --json the members byte, bytes and gap_bytes. A frame is dropped
 without a notice if its FCS is wrong, if its packet is outside 2 to 19 bytes or
 if its escape is followed by a flag. So there is no Spoilt, and in its place the
-totals have Dropped: how often the bytes between two flags gave no packet.
-They are told as stretches in no frame, in bytes, and from 35 bytes on a loss
-behind them is known only modulo 8. Bytes before the first flag and behind the
-last give no packet either, such as a last frame whose closing flag is missing;
-the totals say how many there are, with --json in the members before and behind.
+totals have Dropped frames, with --json dropped_frames: how often the bytes
+between two flags gave no packet. They are told as stretches in no frame, in
+bytes, and from 35 bytes on a loss behind them is known only modulo 8. Bytes
+before the first flag and behind the last give no packet either, such as a last
+frame whose closing flag is missing; the totals say how many there are, with
+--json in the members before and behind.
+
+What was in no frame in the bits that the line was written from leaves no trace
+on it. So a loss or a Copy that decode of these bits marks as known only modulo
+8 has no mark here, and --strict does not find it; aes18 line says how many such
+places there are, and judges the bits with --strict.
 
 A serial device as LINE has to be in raw mode first, or it changes bytes: 0D
 becomes 0A, 11 and 13 are taken as flow control, and so on. With the device's
@@ -196,8 +202,8 @@ pub fn run(args: Args) -> Result<(), Error> {
     drop(progress);
     let passed = decoder.passed();
     let faults = decoder.finish()?;
-    if let (Content::Bits(used), false) = (request.content, passed) {
-        formats::warn_of_no_frame(&request.file, &input, used)?;
+    if !passed {
+        formats::warn_of_no_frame(&request.file, &input)?;
     }
     input.end()?;
     match request.strict {

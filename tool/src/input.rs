@@ -15,12 +15,24 @@ const BUFFER: usize = 64 * 1024;
 pub enum Content {
     /// User bits in one of the formats.
     Bits(Formats),
+    /// The same, where there need be none.
+    Trial(Formats),
     /// The bytes of a serial line.
     Line,
     /// The bytes of a capture, all of them.
     Capture,
     /// A plan's text.
     Plan,
+}
+
+impl Content {
+    /// The format of user bits.
+    fn formats(self) -> Option<Formats> {
+        match self {
+            Content::Bits(formats) | Content::Trial(formats) => Some(formats),
+            Content::Line | Content::Capture | Content::Plan => None,
+        }
+    }
 }
 
 /// What one reading gave: bits in bytes, the first in the lowest bit. All chunks but the last have whole bytes; spare bits of the last are 0.
@@ -81,8 +93,8 @@ impl Input {
             length,
             content,
             buffer: vec![0; BUFFER],
-            extraction: match content {
-                Content::Bits(Formats::Iec958(channel)) => Some(Extraction::new(channel)),
+            extraction: match content.formats() {
+                Some(Formats::Iec958(channel)) => Some(Extraction::new(channel)),
                 _ => None,
             },
             done: 0,
@@ -95,6 +107,11 @@ impl Input {
         &self.name
     }
 
+    /// What it holds.
+    pub fn content(&self) -> Content {
+        self.content
+    }
+
     /// Whether it is a terminal.
     pub fn is_terminal(&self) -> bool {
         self.terminal
@@ -105,7 +122,7 @@ impl Input {
         self.length
     }
 
-    /// The next bits, or none at the end. An empty file is an error. Whether a capture ends inside a word, `end` says, when all before it is told.
+    /// The next bits, or none at the end. An empty file is an error, and a capture without a word of the channel. Whether a capture ends inside a word, `end` says, when all before it is told.
     pub fn chunk(&mut self) -> Result<Option<Chunk<'_>>, Error> {
         let before = self.done;
         let mut bits = 0;
@@ -114,6 +131,7 @@ impl Input {
             bits = self.unpack(count);
         }
         self.refuse_empty()?;
+        self.refuse_no_word()?;
         let bytes = match &self.extraction {
             Some(extraction) => extraction.bytes(),
             None => &self.buffer,
@@ -148,7 +166,7 @@ impl Input {
             Some(extraction) => return extraction.read(bytes),
             None => {}
         }
-        if self.content == Content::Bits(Formats::BitsMsb) {
+        if self.content.formats() == Some(Formats::BitsMsb) {
             bytes
                 .iter_mut()
                 .for_each(|byte| *byte = byte.reverse_bits());
@@ -159,7 +177,7 @@ impl Input {
     /// The error of a file without bytes. What is wrong with an empty plan, its reader says.
     fn refuse_empty(&self) -> Result<(), Error> {
         let expected = match self.content {
-            Content::Bits(_) => "user bits",
+            Content::Bits(_) | Content::Trial(_) => "user bits",
             Content::Line => "a serial line",
             Content::Capture => "a capture",
             Content::Plan => return Ok(()),
@@ -171,6 +189,22 @@ impl Input {
             ))),
             _ => Ok(()),
         }
+    }
+
+    /// The error of a capture, read to its end, that has no word of the channel.
+    fn refuse_no_word(&self) -> Result<(), Error> {
+        let (Content::Bits(Formats::Iec958(channel)), Some(extraction)) =
+            (self.content, &self.extraction)
+        else {
+            return Ok(());
+        };
+        if !self.ended || extraction.found() {
+            return Ok(());
+        }
+        self.refuse_part(extraction.part())?;
+        let name = &self.name;
+        let message = format!("{name}: expected user bits, and channel {channel} has no word");
+        Err(Error::Data(message))
     }
 
     /// All bytes not yet read.

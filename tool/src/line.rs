@@ -3,9 +3,8 @@
 use std::ffi::OsString;
 use std::io::{self, Write};
 
-use aes18::{Framing, Refusal, Stop};
-
-use crate::args::{self, Arg, Args};
+use crate::account::{free_words, modulo_words};
+use crate::args::{self, Arg, Args, BLOCK};
 use crate::draft::Draft;
 use crate::error::Error;
 use crate::formats::{self, Choice, Formats};
@@ -13,11 +12,12 @@ use crate::frames;
 use crate::input::{Content, Input};
 use crate::output::{count, say};
 use crate::progress::Progress;
+use crate::scan::Survey;
 
 pub const HELP: &str = "\
 aes18 line: write the packets in filed user bits as a serial line
 
-Usage: aes18 line [--format FORMAT] [--channel CHANNEL] BITS -o LINE
+Usage: aes18 line [OPTIONS] BITS -o LINE
 
   BITS                 the file of user bits, or - for the standard input
   -o, --output LINE    the file or device to write, or - for the standard output
@@ -26,6 +26,11 @@ Usage: aes18 line [--format FORMAT] [--channel CHANNEL] BITS -o LINE
                        bit; iec958: a capture of ALSA's IEC958_SUBFRAME_LE words
   --channel CHANNEL    left or right, the channel of a capture; left without
                        this option
+  --block N            the bits of a block, 256 to 27000: closing ones end where
+                       a block does, counted from bit 0
+  --strict             exit status 3 if anything is spoilt, malformed, known
+                       only modulo 8, or in no frame; LINE is written all the
+                       same
   -q, --quiet          say nothing but errors
   -h, --help           print this help
 
@@ -36,8 +41,10 @@ flags is written as 7D and the byte exclusive-ored with 20 hex; nothing else is
 escaped.
 
 Every packet is written, whatever its circuit: copies, system packets and
-malformed ones too. A spoilt frame is not; aes18 decode --line tells what was
-lost with it as aes18 decode does.
+malformed ones too. A spoilt frame is not, nor anything else that is in no frame
+in the bits, and the line has no trace of it: of the packets lost there aes18
+decode --line tells the number modulo 8 and does not mark it, as aes18 decode of
+the bits does from 280 bits in no frame on.
 
 A serial device as LINE has to be in raw mode first, or it changes bytes: 0A
 becomes 0D 0A, and so on. With the device's speed in place of 9600:
@@ -49,17 +56,26 @@ that it must be raw; it is written all the same.
 
 LINE is written when all bits are read, and not at all where that goes wrong.
 If writing goes wrong, a file stays as it was, and a device, a pipe or the
-standard output may have got a part. How many packets and bytes were written,
-and how many spoilt frames were left out, is told on the standard error; where
-that is a terminal, a bar shows how far a long reading has come. Where no frame
-passes, a warning there says how many do in other formats and channels.
-Exit status: 0; 1 for a file that cannot be read or written; 2 for wrong usage.
+standard output may have got a part.
+
+On the standard error is told how many packets and bytes were written; how many
+spoilt frames were left out; how many bits are in no frame, in how many
+stretches, and how many stand before the first flag; and how many places are
+known only modulo 8, of all circuits in the bits. All this is counted as aes18
+scan does, and what leaves no trace there leaves none here: see aes18 help scan.
+Where the standard error is a terminal, a bar shows how far a long reading has
+come. Where no frame passes, a warning there says how many do in other formats
+and channels.
+Exit status: 0; 1 for a file that cannot be read or written; 2 for wrong usage;
+3 where --strict finds something, after LINE is written.
 ";
 
-/// The files that the command line names.
+/// What the command line asks for.
 struct Request {
     bits: OsString,
     formats: Formats,
+    block: Option<u64>,
+    strict: bool,
     line: OsString,
 }
 
@@ -68,36 +84,45 @@ pub fn run(args: Args) -> Result<(), Error> {
     let request = Request::parse(args)?;
     let mut input = Input::open(&request.bits, Content::Bits(request.formats))?;
     let mut draft = Draft::serial(&request.line)?;
-    let mut lining = Lining::default();
+    let mut lining = Lining::new(request.block, request.formats)?;
     let mut progress = Progress::alone(input.length());
     while let Some(chunk) = input.chunk()? {
-        let frames = lining.read(chunk.bytes, chunk.bits);
-        let frames = frames.map_err(|refusal| Error::Data(refusal.to_string()))?;
+        let frames = lining.read(chunk.bytes, chunk.bits)?;
         draft
             .write_all(&frames)
             .map_err(|error: io::Error| Error::file(draft.name(), &error))?;
         progress.add(chunk.read);
     }
     drop(progress);
-    if lining.packets == 0 {
-        formats::warn_of_no_frame(&request.bits, &input, request.formats)?;
+    lining.survey.end();
+    if !lining.survey.passed() {
+        formats::warn_of_no_frame(&request.bits, &input)?;
     }
     input.end()?;
-    let length = draft.finish(&[])?;
-    say(&lining.summary(length));
-    Ok(())
+    match draft.finish(&[]) {
+        Err(Error::Closed) => {}
+        length => say(&lining.summary(length?)),
+    }
+    match request.strict {
+        true => Error::strict(input.name(), lining.survey.account.faults()),
+        false => Ok(()),
+    }
 }
 
 impl Request {
     fn parse(mut args: Args) -> Result<Request, Error> {
         let mut bits = None;
         let mut line = None;
+        let mut block = None;
+        let mut strict = false;
         let mut choice = Choice::default();
         while let Some(arg) = args.next()? {
             match arg {
                 Arg::Option(name) if choice.option(&name, &mut args)? => {}
                 Arg::Option(name) => match name.as_str() {
                     "-o" | "--output" => line = Some(args.value("a file for the line")?),
+                    "--block" => block = Some(args.number(BLOCK)?),
+                    "--strict" => strict = true,
                     _ => return Err(args::unknown_option(&name)),
                 },
                 Arg::Operand(path) => args::keep_operand(&mut bits, path)?,
@@ -109,44 +134,49 @@ impl Request {
         Ok(Request {
             bits,
             formats: choice.finish()?,
+            block,
+            strict,
             line,
         })
     }
 }
 
 /// User bits being read for the line.
-#[derive(Default)]
 struct Lining {
-    framing: Framing,
+    survey: Survey,
     packets: u64,
-    spoilt: u64,
 }
 
 impl Lining {
-    /// Reads the next bits, which the bytes begin with, and answers the frames on the line of the packets that they complete.
-    fn read(&mut self, bytes: &[u8], to: u64) -> Result<Vec<u8>, Refusal> {
-        let mut from = 0;
-        let mut frames = Vec::new();
-        loop {
-            let read = self.framing.read(bytes, from, to)?;
-            from += read.bits;
-            match read.stop {
-                Stop::End => return Ok(frames),
-                Stop::Spoilt => self.spoilt += 1,
-                Stop::Packet(packet) => {
-                    self.packets += 1;
-                    frames.extend(frames::on_line(&packet)?);
-                }
-            }
-        }
+    /// Nothing read yet of bits in these formats, in blocks of that length if it is known.
+    fn new(block: Option<u64>, formats: Formats) -> Result<Lining, Error> {
+        Ok(Lining {
+            survey: Survey::new(block, formats.spare())?,
+            packets: 0,
+        })
     }
 
-    /// What there is to tell of a line of that length.
+    /// Reads the next bits, which the bytes begin with, and answers the frames on the line of the packets that they complete.
+    fn read(&mut self, bytes: &[u8], to: u64) -> Result<Vec<u8>, Error> {
+        let mut frames = Vec::new();
+        self.survey.read_packets(bytes, to, |packet| {
+            self.packets += 1;
+            let frame = frames::on_line(packet);
+            frames.extend(frame.map_err(|refusal| Error::Data(refusal.to_string()))?);
+            Ok(())
+        })?;
+        Ok(frames)
+    }
+
+    /// What there is to tell of a line of that length, and of what is not on it.
     fn summary(&self, length: u64) -> String {
         let (packets, bytes) = (count(self.packets, "packet"), count(length, "byte"));
+        let account = &self.survey.account;
         format!(
-            "{packets}, {bytes}; spoilt frames left out: {}",
-            self.spoilt
+            "{packets}, {bytes}; spoilt frames left out: {}\n{}\n{}",
+            account.spoilt,
+            free_words(account, None),
+            modulo_words(account.modulo())
         )
     }
 }
@@ -178,7 +208,7 @@ mod tests {
 
     /// The line of bits given in parts.
     fn line(parts: &[&[u8]]) -> Vec<u8> {
-        let mut lining = Lining::default();
+        let mut lining = Lining::new(None, Formats::Bits).unwrap();
         let frames = parts
             .iter()
             .flat_map(|part| lining.read(part, 8 * part.len() as u64).unwrap());

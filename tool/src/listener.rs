@@ -18,7 +18,7 @@ pub struct Listened {
     pub notice: Notice,
     /// How many bits it read; the next call goes on behind them.
     pub bits: u64,
-    /// At Elsewhere the packet.
+    /// At Elsewhere the packet, and where no circuit is listed at every frame that passes.
     pub packet: Option<Packet>,
 }
 
@@ -57,9 +57,9 @@ impl Listener {
             Notice::Circuit { .. } if self.to_none => Notice::Elsewhere,
             notice => notice,
         };
-        let packet = match notice {
-            Notice::Elsewhere => frames::packet(framing, bytes, from, from + read.bits),
-            _ => Ok(None),
+        let packet = match self.to_none || notice == Notice::Elsewhere {
+            true => frames::packet(framing, bytes, from, from + read.bits),
+            false => Ok(None),
         };
         Ok(Listened {
             notice,
@@ -99,7 +99,11 @@ mod tests {
             let told = (Notice::Elsewhere, Some(packet.to_vec()));
             assert_eq!(hear(&[], packet), told);
         }
-        assert_eq!(hear(&[], b"\x02\x81"), (Notice::Malformed, None));
+        let malformed = b"\x02\x81".to_vec();
+        assert_eq!(hear(&[], &malformed), (Notice::Malformed, Some(malformed)));
+        let (notice, system) = hear(&[], b"\xFF\xC5\x81\x01");
+        assert!(matches!(notice, Notice::System { .. }));
+        assert_eq!(system.as_deref(), Some(&b"\xFF\xC5\x81\x01"[..]));
     }
 
     #[test]

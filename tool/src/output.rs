@@ -29,6 +29,9 @@ pub fn print(text: &str) -> io::Result<()> {
     stdout.flush()
 }
 
+/// What a warning begins with.
+pub const WARNING: &str = "aes18: warning: ";
+
 /// Says an error on the standard error; where that cannot be written there is nobody to tell.
 pub fn say_error(line: &str) {
     let _ = writeln!(io::stderr(), "{line}");

@@ -27,7 +27,7 @@ pub struct Told {
     pub bits: u64,
     /// The notice that it stopped at, if there is one.
     pub heard: Option<Heard>,
-    /// At Elsewhere the packet.
+    /// At Elsewhere the packet, and where no circuit is listed at every frame that passes.
     pub packet: Option<Packet>,
 }
 

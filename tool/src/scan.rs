@@ -18,7 +18,8 @@ use crate::json::{line, GapObject, Members, Only};
 use crate::output::folded;
 use crate::progress::Progress;
 pub use listening::Listening;
-use survey::{Heard, Survey};
+use survey::Heard;
+pub use survey::Survey;
 
 pub const HELP: &str = "\
 aes18 scan: list the circuits of the packets in filed user bits
@@ -109,7 +110,7 @@ pub fn run(args: Args) -> Result<(), Error> {
     listing.gaps(&survey.end())?;
     listing.end(&survey)?;
     if !survey.passed() {
-        formats::warn_of_no_frame(&request.bits, &input, request.formats)?;
+        formats::warn_of_no_frame(&request.bits, &input)?;
     }
     input.end()
 }
@@ -199,7 +200,7 @@ impl<W: Write> Listing<W> {
         );
         writeln!(self.out, "{}", folded(&read))?;
         writeln!(self.out, "{}", free_words(account, None))?;
-        writeln!(self.out, "{}", modulo_words(survey.modulo()))?;
+        writeln!(self.out, "{}", modulo_words(account.modulo()))?;
         for gap in &self.gaps {
             writeln!(self.out, "  {}", gap_words(Unit::Bit, gap))?;
         }
@@ -232,7 +233,7 @@ impl<W: Write> Listing<W> {
             ("before", json!(account.before)),
             ("gaps", json!(account.gaps)),
             ("gap_bits", json!(account.free)),
-            ("modulo8", json!(survey.modulo())),
+            ("modulo8", json!(account.modulo())),
             ("circuits", json!(circuits.len())),
             ("system", json!(account.system)),
             ("spoilt", json!(account.spoilt)),

@@ -208,7 +208,7 @@ fn draw(
     }
     let Drawing { pass, tally, .. } = drawing;
     if pass.ended() && !pass.passed() {
-        formats::warn_of_no_frame(&options.bits, input, options.formats)?;
+        formats::warn_of_no_frame(&options.bits, input)?;
     }
     match tally.end == 0 && layout.from > 0 {
         true => Err(Error::Data(format!(

@@ -36,7 +36,7 @@ fn printed(folder: &Path, arguments: &[&str]) -> String {
 
 /// The same of a pass without frames that pass.
 fn printed_without_frames(folder: &Path, arguments: &[&str]) -> String {
-    let warning = "warning: pass: no frame found, nor in another format or channel\n";
+    let warning = "aes18: warning: pass: no frame found, nor in another format or channel\n";
     output_with(&mut show(folder, arguments), warning)
 }
 

@@ -73,8 +73,10 @@ impl History {
         let notice = told.notice;
         self.passed |= notice != Notice::Spoilt;
         let Notice::Circuit { number, loss, fate } = notice else {
+            let packet = told.packet.as_deref();
+            let packet = packet.filter(|_| notice == Notice::Elsewhere);
             return Heard {
-                elsewhere: told.packet.as_deref().and_then(circuits::of_packet),
+                elsewhere: packet.and_then(circuits::of_packet),
                 ..Heard::plain(notice)
             };
         };

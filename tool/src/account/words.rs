@@ -124,23 +124,31 @@ pub fn unfinished_words(account: &Account, message: &Unfinished) -> String {
 
 /// What leaves no trace, so that nothing is told of it.
 pub fn untraced(unit: Unit, block: bool) -> Vec<&'static str> {
-    let missing = match unit {
-        Unit::Bit => "bits missing altogether",
-        Unit::Byte => "bytes missing altogether",
-    };
-    let mut untraced = vec![missing, "dropouts to flags"];
-    if unit == Unit::Bit && !block {
-        untraced.push("dropouts to ones behind a flag");
+    let flags = "dropouts to flags";
+    match (unit, block) {
+        (Unit::Bit, true) => vec!["bits missing altogether", flags],
+        (Unit::Bit, false) => vec![
+            "bits missing altogether",
+            flags,
+            "dropouts to ones behind a flag",
+        ],
+        (Unit::Byte, _) => vec![
+            "bytes missing altogether",
+            flags,
+            "what was in no frame in the bits that the line was written from",
+        ],
     }
-    untraced
 }
 
 /// The same as text.
 pub fn untraced_words(unit: Unit, block: bool) -> String {
-    match untraced(unit, block)[..] {
-        [missing, flags, ones] => {
+    match (unit, &untraced(unit, block)[..]) {
+        (Unit::Bit, [missing, flags, ones]) => {
             format!("No trace is left by {missing}, {flags} and,\nwithout --block, {ones}.")
         }
-        ref all => format!("No trace is left by {}.", all.join(" and ")),
+        (Unit::Byte, [missing, flags, bits]) => {
+            format!("No trace is left by {missing}, {flags} and\n{bits}.")
+        }
+        (_, all) => format!("No trace is left by {}.", all.join(" and ")),
     }
 }

@@ -47,7 +47,7 @@ impl Sum<'_> {
     pub fn damaged(&self) -> (&'static str, u64) {
         match self.rest {
             None => ("Spoilt", self.account.spoilt),
-            Some(rest) => ("Dropped", rest.dropped),
+            Some(rest) => ("Dropped frames", rest.dropped),
         }
     }
 }

@@ -125,7 +125,7 @@ impl Serialize for SumObject<'_> {
         members.serialize_entry("modulo8", &account.modulo())?;
         members.serialize_entry("system", &account.system)?;
         let (damaged, number) = sum.damaged();
-        members.serialize_entry(&damaged.to_ascii_lowercase(), &number)?;
+        members.serialize_entry(&damaged.to_ascii_lowercase().replace(' ', "_"), &number)?;
         members.serialize_entry("malformed", &account.malformed)?;
         members.serialize_entry("elsewhere", &account.elsewhere)?;
         let circuits = account.circuits().enumerate();

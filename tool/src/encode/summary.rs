@@ -4,7 +4,7 @@ use aes18::Sender;
 
 use super::plan::Plan;
 use super::sending::Made;
-use crate::output::count;
+use crate::output::{count, WARNING};
 
 /// The lines so far, one for each block, and the sums over them.
 #[derive(Default)]
@@ -38,7 +38,7 @@ impl Summary {
             let waiting = sender.waiting(number);
             if waiting > 0 {
                 self.lines += &format!(
-                    "\nwarning: circuit {number} ({circuit}): {} waiting for a later block",
+                    "\n{WARNING}circuit {number} ({circuit}): {} waiting for a later block",
                     count(waiting as u64, "packet")
                 );
             }

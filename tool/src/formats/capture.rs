@@ -59,6 +59,8 @@ pub struct Extraction {
     /// The bits behind them, from the lowest place on, and how many they are.
     held: u8,
     count: u32,
+    /// Whether there was a word of the channel.
+    found: bool,
 }
 
 impl Extraction {
@@ -69,6 +71,7 @@ impl Extraction {
             bytes: Vec::new(),
             held: 0,
             count: 0,
+            found: false,
         }
     }
 
@@ -78,6 +81,7 @@ impl Extraction {
         self.bytes.clear();
         for (channel, word) in self.words.by_ref() {
             if channel == self.channel {
+                self.found = true;
                 self.held |= u8::from(word.user()) << self.count;
                 self.count += 1;
                 if self.count == u8::BITS {
@@ -99,6 +103,11 @@ impl Extraction {
     /// The bytes of the bits that are there now.
     pub fn bytes(&self) -> &[u8] {
         &self.bytes
+    }
+
+    /// Whether there was a word of the channel so far.
+    pub fn found(&self) -> bool {
+        self.found
     }
 
     /// How many bytes are there of a word that is not whole.

@@ -8,16 +8,20 @@ use aes18::{Framing, Refusal, Stop};
 use super::Formats;
 use crate::error::Error;
 use crate::input::{Chunk, Content, Input};
-use crate::output::{count, say};
+use crate::output::{count, say, WARNING};
 use crate::progress::Progress;
 
-/// Says that no frame was found in the input read in these formats and, where it is a file that can be read again, which others have frames.
-pub fn warn_of_no_frame(path: &OsStr, input: &Input, used: Formats) -> Result<(), Error> {
-    let mut warning = format!("warning: {}: no frame found", input.name());
+/// Says that no frame was found in the input and, where it is a file that can be read again, which other formats have frames.
+pub fn warn_of_no_frame(path: &OsStr, input: &Input) -> Result<(), Error> {
+    let mut warning = format!("{WARNING}{}: no frame found", input.name());
     if path != "-" && fs::metadata(path).is_ok_and(|found| found.is_file()) {
-        match elsewhere(path, used)?.as_slice() {
-            [] => warning += ", nor in another format or channel",
-            found => warning.extend(found.iter().map(line)),
+        let (with, nor) = match input.content() {
+            Content::Line => ("without --line, with", "as user bits in any"),
+            _ => ("with", "in another"),
+        };
+        match elsewhere(path, input.content())?.as_slice() {
+            [] => warning += &format!(", nor {nor} format or channel"),
+            found => warning.extend(found.iter().map(|found| line(with, found))),
         }
     }
     say(&warning);
@@ -25,14 +29,15 @@ pub fn warn_of_no_frame(path: &OsStr, input: &Input, used: Formats) -> Result<()
 }
 
 /// A line of the warning: the frames found, and the options that they are read with.
-fn line((formats, frames): &(Formats, u64)) -> String {
-    format!("\n  {} with {formats}", count(*frames, "frame"))
+fn line(with: &str, (formats, frames): &(Formats, u64)) -> String {
+    format!("\n  {} {with} {formats}", count(*frames, "frame"))
 }
 
-/// The other formats in which frames of the file pass, with their number.
-fn elsewhere(path: &OsStr, used: Formats) -> Result<Vec<(Formats, u64)>, Error> {
+/// The formats in which frames of the file pass, other than the one that was read, with their number.
+fn elsewhere(path: &OsStr, read: Content) -> Result<Vec<(Formats, u64)>, Error> {
+    let others = |formats: &Formats| read != Content::Bits(*formats);
     let mut found = Vec::new();
-    for formats in Formats::ALL.into_iter().filter(|other| *other != used) {
+    for formats in Formats::ALL.into_iter().filter(others) {
         let frames = frames(path, formats)?;
         if frames > 0 {
             found.push((formats, frames));
@@ -43,7 +48,7 @@ fn elsewhere(path: &OsStr, used: Formats) -> Result<Vec<(Formats, u64)>, Error> 
 
 /// How many frames pass in a file.
 fn frames(path: &OsStr, formats: Formats) -> Result<u64, Error> {
-    let mut input = Input::open(path, Content::Bits(formats))?;
+    let mut input = Input::open(path, Content::Trial(formats))?;
     let mut progress = Progress::alone(input.length());
     let mut framing = Framing::new();
     let mut frames = 0;

@@ -58,12 +58,23 @@ impl Survey {
 
     /// Reads the bits of the bytes before the bit `to`; answers the stretches in no frame that have ended.
     pub fn read(&mut self, bytes: &[u8], to: u64) -> Result<Vec<Gap>, Error> {
+        self.read_packets(bytes, to, |_| Ok(()))
+    }
+
+    /// The same with each packet that passes, whatever its kind.
+    pub fn read_packets(
+        &mut self,
+        bytes: &[u8],
+        to: u64,
+        mut each: impl FnMut(&Packet) -> Result<(), Error>,
+    ) -> Result<Vec<Gap>, Error> {
         let mut gaps = Vec::new();
         let mut from = 0;
         while from < to {
             let told = self.pass.read(bytes, from, to)?;
             from += told.bits;
             self.bits += told.bits;
+            told.packet.iter().try_for_each(&mut each)?;
             if let Some(heard) = told.heard {
                 self.account.notice(&heard);
                 self.hear(heard.elsewhere.zip(told.packet));
@@ -93,7 +104,10 @@ impl Survey {
         };
         let free = self.pass.free();
         match self.places.get(&circuit) {
-            Some(place) => self.heard[*place].again(packet, self.bits, free),
+            Some(place) => {
+                let doubtful = self.heard[*place].again(packet, self.bits, free);
+                self.account.unlisted += u64::from(doubtful);
+            }
             None => {
                 self.places.insert(circuit, self.heard.len());
                 self.heard.push(Heard {
@@ -129,16 +143,12 @@ impl Survey {
         ranked.sort_by_key(|heard| Reverse(heard.packets));
         ranked
     }
-
-    /// How many packets are behind so much in no frame that what was lost before them is known only modulo 8.
-    pub fn modulo(&self) -> u64 {
-        self.heard.iter().map(|heard| heard.modulo).sum()
-    }
 }
 
 impl Heard {
-    /// Notes a further packet, whose frame ends before the bit `to`, behind so much in no frame in all.
-    fn again(&mut self, packet: Packet, to: u64, free: u64) {
+    /// Notes a further packet, whose frame ends before the bit `to`, behind so much in no frame in all; answers whether what was lost before it is
+    /// known only modulo 8.
+    fn again(&mut self, packet: Packet, to: u64, free: u64) -> bool {
         match packet == self.last {
             true => self.copies += 1,
             false => {
@@ -146,9 +156,11 @@ impl Heard {
                 self.bytes += packet.len() as u64;
             }
         }
-        self.modulo += u64::from(free - self.free >= Unit::Bit.doubtful());
+        let doubtful = free - self.free >= Unit::Bit.doubtful();
+        self.modulo += u64::from(doubtful);
         self.to = to;
         self.last = packet;
         self.free = free;
+        doubtful
     }
 }

@@ -586,7 +586,7 @@ fn files_in_another_format() {
     ];
     for (filed, name) in formats {
         encode(&folder, filed, "plan", "filed");
-        let warning = format!("warning: filed: no frame found\n  8 frames with {name}\n");
+        let warning = format!("aes18: warning: filed: no frame found\n  8 frames with {name}\n");
         for (read, _) in formats.iter().filter(|(read, _)| *read != filed) {
             let ran = decode(&folder, read, "filed");
             assert!(ran.err.starts_with(&warning), "{}", ran.err);
@@ -615,7 +615,7 @@ fn files_in_another_format() {
     );
     let ran = decode(&folder, &["--format=bits-msb"], "two");
     let found = "\
-warning: two: no frame found
+aes18: warning: two: no frame found
   8 frames with --format iec958 --channel left
   4 frames with --format iec958 --channel right
 ";
@@ -625,11 +625,11 @@ warning: two: no frame found
         assert_eq!(folder.run(&quiet).err, "");
     }
     let ran = folder.run_with(&["decode", ALL, "-"], &folder.read("two"));
-    let none = "warning: standard input: no frame found\n";
+    let none = "aes18: warning: standard input: no frame found\n";
     assert_eq!((ran.status, ran.err.as_str()), (0, none));
     folder.write("zeros", [0; 1000]);
     let ran = decode(&folder, &LEFT, "zeros");
-    let none = "warning: zeros: no frame found, nor in another format or channel\n";
+    let none = "aes18: warning: zeros: no frame found, nor in another format or channel\n";
     assert_eq!((ran.status, ran.err.as_str()), (0, none));
 }
 
@@ -677,6 +677,63 @@ fn empty_files() {
             .failed(1, message);
     }
     assert!(!folder.path("new").exists());
+}
+
+/// A capture without a word of the channel is refused as an empty file is, and nothing is written; that of the other channel is read.
+#[test]
+fn captures_without_the_channel() {
+    let folder = folder("no-channel");
+    folder.write("left", bytes(&[0x2; 100]));
+    folder.write("right", bytes(&[0x4; 100]));
+    // Longer than is read at once, and shorter than a word.
+    folder.write("long", bytes(&[0x4; 50_000]));
+    folder.write("short", [0x4; 3]);
+    folder.write("cut", [&[0x4; 4][..], &[0; 2]].concat());
+    let names = folder.names();
+    let none = "expected user bits, and channel";
+    let part = "expected a word of 4 bytes, and the capture ends after";
+    for (file, options, message) in [
+        ("left", &RIGHT[..], format!("{none} right has no word")),
+        ("right", &LEFT, format!("{none} left has no word")),
+        ("long", &LEFT, format!("{none} left has no word")),
+        ("short", &RIGHT, format!("byte 0: {part} 3 of them")),
+        ("cut", &LEFT, format!("byte 4: {part} 2 of them")),
+    ] {
+        let readers: [&[&str]; 7] = [
+            &["scan"],
+            &["decode"],
+            &["decode", ALL, "--json"],
+            &["show", ALL],
+            &["show", "--svg=new"],
+            &["line", "-o", "new"],
+            &["line", "--strict", "-o", "-"],
+        ];
+        for reader in readers {
+            let ran = folder.run(&[reader, options, &[file]].concat());
+            ran.failed(1, &format!("aes18: {file}: {message}\n"));
+        }
+    }
+    assert_eq!(folder.names(), names);
+    for (file, options) in [("left", &LEFT[..]), ("right", &RIGHT)] {
+        let ran = decode(&folder, options, file);
+        assert_eq!(ran.status, 0, "{}", ran.err);
+        assert!(String::from_utf8(ran.out)
+            .unwrap()
+            .contains("\nbits read 100; "));
+    }
+}
+
+/// A file without frames may have no word of a channel where it is looked for frames in other formats.
+#[test]
+fn other_formats_without_a_word() {
+    let folder = folder("no-word");
+    for (file, words) in [("left", bytes(&[0x2; 100])), ("short", vec![0; 3])] {
+        folder.write(file, words);
+        let ran = decode(&folder, &[], file);
+        let none = "no frame found, nor in another format or channel";
+        let warning = format!("aes18: warning: {file}: {none}\n");
+        assert_eq!((ran.status, ran.err), (0, warning));
+    }
 }
 
 #[test]

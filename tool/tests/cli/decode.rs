@@ -173,7 +173,7 @@ fn any_bytes() {
         .collect();
     folder.write("noise", &noise);
     let ran = folder.run(&["decode", "--circuits", "01", "noise"]);
-    let none = "warning: noise: no frame found, nor in another format or channel\n";
+    let none = "aes18: warning: noise: no frame found, nor in another format or channel\n";
     assert_eq!((ran.status, ran.err.as_str()), (0, none));
     let told = String::from_utf8(ran.out).unwrap();
     assert!(told.contains("\nbits read 1600000; "), "{told}");

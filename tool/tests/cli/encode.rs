@@ -26,7 +26,7 @@ plan:8: block 0: 3 frames placed, 584 of 600 bits used
 plan:9: block 1: 0 frames placed, 81 of 600 bits used
 plan:10: block 2: 4 frames placed, 430 of 605 bits used
 3 blocks, 1805 bits
-warning: circuit 1 (02:07): 3 packets waiting for a later block
+aes18: warning: circuit 1 (02:07): 3 packets waiting for a later block
 ";
 
 fn hex(bytes: &[u8]) -> String {

@@ -797,3 +797,107 @@ fn many_stretches_of_a_scan() {
         assert_eq!(gaps.count(), stretches + usize::from(before > 0));
     }
 }
+
+/// What line says of the bits as `torn` with these options, behind the packets and the bytes; with `--strict` the exit status has to be that, and the
+/// line is the same.
+fn lined(folder: &Folder, options: &[&str], strict: i32) -> String {
+    let arguments = [&["line", "torn", "-o", "line"], options].concat();
+    let ran = folder.run(&arguments);
+    assert_eq!(ran.status, 0, "{}", ran.err);
+    let line = folder.read("line");
+    folder.write("line", "");
+    let judged = folder.run(&[&arguments[..], &["--strict"]].concat());
+    assert_eq!(judged.status, strict, "{}", judged.err);
+    assert_eq!(folder.read("line"), line);
+    assert!(judged.err.starts_with(&ran.err), "{}", judged.err);
+    assert_eq!(judged.err.len() == ran.err.len(), strict == 0);
+    ran.err.split_once("; ").unwrap().1.to_string()
+}
+
+/// The dropout is told where the line is written: the line has no trace of it.
+#[test]
+fn eight_blocks_zeroed_on_a_line() {
+    let folder = torn("gaps-line", 8, 0);
+    let said = "\
+spoilt frames left out: 0
+in no frame: 2048 bits in 1 stretch
+before the first flag 0
+known only modulo 8: 1 place
+";
+    assert_eq!(lined(&folder, &[], 3), said);
+    assert_eq!(lined(&folder, &["--block=256"], 3), said);
+    let ran = folder.run(&["line", "--strict", "-q", "torn", "-o", "line"]);
+    let faults = "1 place known only modulo 8, 2048 bits in no frame";
+    assert_eq!(ran.err, format!("aes18: torn: --strict: {faults}\n"));
+    let arguments = ["decode", "--line", "--circuits=01", "--strict", "line"];
+    let told = folder.run(&arguments).told();
+    assert!(told.contains("\nknown only modulo 8: 0 places\n"), "{told}");
+    let untraced = "\nwhat was in no frame in the bits that the line was written from.\n";
+    assert!(told.ends_with(untraced), "{told}");
+}
+
+/// Eight spoilt frames are such a dropout too.
+#[test]
+fn eight_frames_spoilt_on_a_line() {
+    let folder = Folder::new("gaps-line-spoilt");
+    let mut bits = forty(&folder);
+    (20..28).for_each(|block| bits[block * 32 + 8] ^= 0x01);
+    folder.write("torn", &bits);
+    let said = lined(&folder, &[], 3);
+    assert!(said.starts_with("spoilt frames left out: 8\nin no frame: "));
+    assert!(said.ends_with("\nknown only modulo 8: 1 place\n"), "{said}");
+}
+
+/// Blocks of ones are told of with the length of a block only, and nothing is at fault in a whole pass.
+#[test]
+fn blocks_on_a_line() {
+    let folder = torn("gaps-line-ones", 8, 0xFF);
+    let free = |said: &str| said.lines().nth(1).unwrap().to_string();
+    let none = "in no frame: 0 bits in 0 stretches";
+    assert_eq!(free(&lined(&folder, &[], 0)), none);
+    let ones = "in no frame: 2048 bits in 1 stretch";
+    assert_eq!(free(&lined(&folder, &["--block=256"], 3)), ones);
+    folder.write("torn", folder.read("bits"));
+    assert_eq!(free(&lined(&folder, &["--block=256"], 0)), none);
+    let wrong = folder.run(&["line", "--block=255", "torn", "-o", "line"]);
+    assert_eq!(wrong.status, 2);
+}
+
+/// Every circuit has its place, listed among the first four or not; a malformed packet is on the line, and at fault.
+#[test]
+fn circuits_and_malformed_packets_on_a_line() {
+    let folder = Folder::new("gaps-line-circuits");
+    let packets: Vec<[u8; 4]> = (1..=5).map(|address| [address, 0x80, 1, 7]).collect();
+    let packets: Vec<&[u8]> = packets.iter().map(|packet| &packet[..]).collect();
+    let frames = framed(&packets);
+    folder.write(
+        "torn",
+        bytes_of(&[&frames[..], &[false; 400], &frames].concat()),
+    );
+    let said = lined(&folder, &[], 3);
+    assert!(
+        said.ends_with("\nknown only modulo 8: 5 places\n"),
+        "{said}"
+    );
+    folder.write("torn", bytes_of(&framed(&[b"\x01\x80"])));
+    lined(&folder, &[], 3);
+    let ran = folder.run(&["line", "--strict", "-q", "torn", "-o", "line"]);
+    assert_eq!(ran.err, "aes18: torn: --strict: 1 packet malformed\n");
+    assert_eq!(folder.read("line").len(), 6);
+}
+
+/// Bits are judged also where nobody reads the line.
+#[test]
+fn a_line_that_is_not_read() {
+    let folder = torn("gaps-line-closed", 8, 0);
+    for (options, status) in [(&["--strict"][..], 3), (&[], 0)] {
+        let mut child = folder
+            .command(&[&["line", "-q", "torn", "-o", "-"], options].concat())
+            .stdout(Stdio::piped())
+            .stderr(Stdio::null())
+            .spawn()
+            .unwrap();
+        drop(child.stdout.take());
+        assert_eq!(child.wait().unwrap().code(), Some(status));
+    }
+}

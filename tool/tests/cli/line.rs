@@ -45,16 +45,28 @@ fn without_places(told: &str) -> String {
         .collect()
 }
 
+/// What is said of so many packets, as so many bytes, where nothing is in no frame.
+pub fn summary(packets: usize, bytes: usize) -> String {
+    format!(
+        "\
+{packets} packets, {bytes} bytes; spoilt frames left out: 0
+in no frame: 0 bits in 0 stretches
+before the first flag 0
+known only modulo 8: 0 places
+"
+    )
+}
+
 /// A folder with the bits of the plan, and their line.
 pub fn folder(name: &str) -> Folder {
     let folder = Folder::new(name);
     folder.write("plan", PLAN);
     assert_eq!(folder.run(&["encode", "plan", "-o", "bits"]).status, 0);
     let ran = folder.run(&["line", "bits", "-o", "line"]);
-    let summary = "8 packets, 135 bytes; spoilt frames left out: 0\n";
+    let summary = summary(8, 135);
     assert_eq!(
         (ran.status, ran.out.as_slice(), ran.err.as_str()),
-        (0, &b""[..], summary)
+        (0, &b""[..], summary.as_str())
     );
     folder
 }
@@ -102,11 +114,12 @@ bytes                      10                0               20
 dropped                     0                0                0
 orphans                     0                0                0
 wrong                       0                0                0
-bytes read 135; System 1, Dropped 0, Malformed 0, Elsewhere 0
+bytes read 135; System 1, Dropped frames 0, Malformed 0, Elsewhere 0
 in no frame: 0 bytes in 0 stretches
 before the first flag 0, behind the last 0
 known only modulo 8: 0 places
-No trace is left by bytes missing altogether and dropouts to flags.
+No trace is left by bytes missing altogether, dropouts to flags and
+what was in no frame in the bits that the line was written from.
 ";
     assert_eq!(line, expected);
 }
@@ -137,13 +150,17 @@ fn the_same_json() {
         "behind",
         "gaps",
         "gap_bytes",
-        "dropped",
+        "dropped_frames",
         "system",
     ];
     let figures = figures.map(|figure| line[figure].as_u64().unwrap());
     assert_eq!(figures, [135, 0, 0, 0, 0, 0, 1]);
-    let untraced = r#"{"untraced":["bytes missing altogether","dropouts to flags"]}"#;
-    assert_eq!(line["untraced"], objects(untraced)[0]["untraced"]);
+    let untraced = [
+        "bytes missing altogether",
+        "dropouts to flags",
+        "what was in no frame in the bits that the line was written from",
+    ];
+    assert_eq!(line["untraced"], Value::from(untraced.to_vec()));
 }
 
 #[test]
@@ -170,10 +187,10 @@ fn standard_input_and_output() {
     let folder = folder("line-streams");
     let (bits, line) = (folder.read("bits"), folder.read("line"));
     let ran = folder.run_with(&["line", "--output=-", "-"], &bits);
-    let summary = "8 packets, 135 bytes; spoilt frames left out: 0\n";
+    let summary = summary(8, 135);
     assert_eq!(
         (ran.status, ran.out, ran.err.as_str()),
-        (0, line.clone(), summary)
+        (0, line.clone(), summary.as_str())
     );
     let from_file = folder.run(&["decode", "--line", ALL, "line"]).told();
     let from_pipe = folder.run_with(&["decode", ALL, "--line", "-"], &line);
@@ -194,11 +211,7 @@ fn packets_of_any_kind() {
     folder.write("bits", bytes_of(&framed(&packets)));
     let ran = folder.run(&["line", "bits", "-o", "line"]);
     let line = line_of(&packets);
-    let summary = format!(
-        "294 packets, {} bytes; spoilt frames left out: 0\n",
-        line.len()
-    );
-    assert_eq!((ran.status, ran.err), (0, summary));
+    assert_eq!((ran.status, ran.err), (0, summary(294, line.len())));
     assert_eq!(folder.read("line"), line);
     let bits = folder.run(&["decode", ALL, "bits"]).told();
     let line = folder.run(&["decode", "--line", ALL, "line"]).told();
@@ -211,13 +224,14 @@ fn packets_of_any_kind() {
 fn torn_bits() {
     let folder = torn_pass("line-torn");
     let ran = folder.run(&["line", "bits", "-o", "line"]);
-    let end = "bytes; spoilt frames left out: 2\n";
-    assert!(
-        ran.status == 0 && ran.err.starts_with("19 packets, "),
-        "{}",
-        ran.err
-    );
+    assert!(ran.err.starts_with("19 packets, "), "{}", ran.err);
+    let end = " bytes; spoilt frames left out: 2
+in no frame: 1664 bits in 2 stretches
+before the first flag 0
+known only modulo 8: 2 places
+";
     assert!(ran.err.ends_with(end), "{}", ran.err);
+    assert_eq!(ran.status, 0);
     let bits = folder.run(&["decode", "--circuits=01", "bits"]).told();
     let line = folder
         .run(&["decode", "--line", "--circuits=01", "line"])
@@ -226,7 +240,7 @@ fn torn_bits() {
     assert_eq!(spoilt.matches("Spoilt\n").count(), 2);
     assert_eq!(without_places(&line), spoilt.replace("Spoilt\n", ""));
     assert!(
-        line.contains("; System 1, Dropped 0, Malformed 0, Elsewhere 3\n"),
+        line.contains("; System 1, Dropped frames 0, Malformed 0, Elsewhere 3\n"),
         "{line}"
     );
 }
@@ -281,11 +295,12 @@ bytes                      10
 dropped                     0
 orphans                     0
 wrong                       0
-bytes read 90; System 0, Dropped 4, Malformed 0, Elsewhere 0
+bytes read 90; System 0, Dropped frames 4, Malformed 0, Elsewhere 0
 in no frame: 44 bytes in 5 stretches
 before the first flag 8, behind the last 6
 known only modulo 8: 1 place
-No trace is left by bytes missing altogether and dropouts to flags.
+No trace is left by bytes missing altogether, dropouts to flags and
+what was in no frame in the bits that the line was written from.
 ";
     assert_eq!(told, expected);
     let ran = folder.run(&["decode", "--line", "--strict", "--circuits=01", "line"]);
@@ -340,16 +355,25 @@ fn bytes_in_no_frame() {
     ];
     for (line, messages, before, behind, free) in cases {
         folder.write("line", &line);
+        let warning = match messages {
+            0 => {
+                "aes18: warning: line: no frame found, nor as user bits in any format or channel\n"
+            }
+            _ => "",
+        };
         let told = |option: &[&str]| {
-            folder
-                .run(&[&["decode", "--line", "--circuits=01", "line"], option].concat())
-                .told()
+            let ran =
+                folder.run(&[&["decode", "--line", "--circuits=01", "line"], option].concat());
+            assert_eq!((ran.status, ran.err.as_str()), (0, warning));
+            String::from_utf8(ran.out).unwrap()
         };
         let (text, json) = (told(&[]), told(&["--json"]));
         assert_eq!(text.matches("Whole").count(), messages, "{text}");
         let (read, gaps) = (line.len(), usize::from(free > 0));
         assert!(
-            text.contains(&format!("\nbytes read {read}; System 0, Dropped 0, ")),
+            text.contains(&format!(
+                "\nbytes read {read}; System 0, Dropped frames 0, "
+            )),
             "{text}"
         );
         let outside = format!("\nbefore the first flag {before}, behind the last {behind}\n");
@@ -430,14 +454,24 @@ fn bits_byte_by_byte() {
 #[test]
 fn nothing_and_anything() {
     let folder = Folder::new("line-nothing");
-    let nothing = "\
-warning: bits: no frame found, nor in another format or channel
-0 packets, 0 bytes; spoilt frames left out: 0
-";
-    for byte in [0x00, 0xFF, 0x7E, 0x55] {
+    for (byte, free) in [
+        (0x00, "800 bits in 1 stretch"),
+        (0xFF, "800 bits in 1 stretch"),
+        (0x7E, "0 bits in 0 stretches"),
+        (0x55, "800 bits in 1 stretch"),
+    ] {
         folder.write("bits", [byte; 100]);
         let ran = folder.run(&["line", "bits", "-o", "line"]);
-        assert_eq!((ran.status, ran.err.as_str()), (0, nothing));
+        let nothing = format!(
+            "\
+aes18: warning: bits: no frame found, nor in another format or channel
+0 packets, 0 bytes; spoilt frames left out: 0
+in no frame: {free}
+before the first flag 0
+known only modulo 8: 0 places
+"
+        );
+        assert_eq!((ran.status, ran.err), (0, nothing));
         assert_eq!(folder.read("line"), b"");
     }
     let noise: Vec<u8> = (0..200_000u32)
@@ -445,15 +479,14 @@ warning: bits: no frame found, nor in another format or channel
         .collect();
     folder.write("noise", &noise);
     assert_eq!(folder.run(&["line", "noise", "-o", "line"]).status, 0);
-    let told = folder
-        .run(&["decode", "--line", "--circuits=01", "noise"])
-        .told();
+    let ran = folder.run(&["decode", "--line", "--circuits=01", "noise"]);
+    let told = String::from_utf8(ran.out).unwrap();
     let is_flag = |byte: &u8| *byte == 0x7E;
     let before = noise.iter().position(is_flag).unwrap();
     let behind = noise.iter().rev().position(is_flag).unwrap();
     let outside = format!("\nbefore the first flag {before}, behind the last {behind}\n");
     assert!(
-        told.contains("\nbytes read 200000; System 0, Dropped "),
+        told.contains("\nbytes read 200000; System 0, Dropped frames "),
         "{told}"
     );
     assert!(told.contains(&outside), "{told}");
@@ -498,4 +531,21 @@ fn files_that_cannot_be_used() {
         .failed(1, &message);
     assert_eq!(folder.run(&["line", "bits", "-o", "old"]).status, 0);
     assert_eq!(folder.read("old"), folder.read("line"));
+}
+
+/// User bits read as a line get a warning that tells where their frames are; a pipe cannot be read again.
+#[test]
+fn bits_for_a_line() {
+    let folder = folder("line-of-bits");
+    let ran = folder.run(&["decode", "--line", ALL, "bits"]);
+    let found = "\
+aes18: warning: bits: no frame found
+  8 frames without --line, with --format bits
+";
+    assert_eq!((ran.status, ran.err.as_str()), (0, found));
+    let ran = folder.run_with(&["decode", "--line", ALL, "-"], &folder.read("bits"));
+    let found = "aes18: warning: standard input: no frame found\n";
+    assert_eq!((ran.status, ran.err.as_str()), (0, found));
+    let quiet = folder.run(&["decode", "--line", "--quiet", ALL, "bits"]);
+    assert_eq!((quiet.status, quiet.err.as_str()), (0, ""));
 }

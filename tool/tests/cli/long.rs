@@ -5,6 +5,7 @@ use std::fs::{self, File};
 use std::io::{BufWriter, Read, Write};
 use std::process::{Child, Stdio};
 
+use super::line::summary;
 use super::runs::Folder;
 
 /// Bytes of the long file, at least.
@@ -99,15 +100,17 @@ fn a_long_line_takes_little_memory() {
     let (end, err) = run(&folder, &["line", "long", "-o", "-"]);
     assert!(!end.is_empty() && once.ends_with(&end));
     let packets = 9 * 40 * times;
-    let summary = format!("{packets} packets, {bytes} bytes; spoilt frames left out: 0\n");
-    assert_eq!(err, summary);
+    assert_eq!(err, summary(packets, bytes));
     assert_eq!(folder.run(&["line", "long", "-o", "line"]).status, 0);
     let (end, err) = run(
         &folder,
         &["decode", "--line", "--circuits=01,02:07", "line"],
     );
     assert_eq!(err, "");
-    let totals = totals(times, &format!("bytes read {bytes}; System 0, Dropped 0"));
+    let totals = totals(
+        times,
+        &format!("bytes read {bytes}; System 0, Dropped frames 0"),
+    );
     let end = String::from_utf8(end).unwrap();
     assert!(end.contains(&totals), "{end}");
 }

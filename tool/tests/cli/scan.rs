@@ -141,7 +141,7 @@ known only modulo 8: 0 places
 No trace is left by bits missing altogether and dropouts to flags.
 ";
     let ran = folder.run(&["scan", "--block=256", "zeros"]);
-    let warning = "warning: zeros: no frame found, nor in another format or channel\n";
+    let warning = "aes18: warning: zeros: no frame found, nor in another format or channel\n";
     assert_eq!((ran.status, ran.err.as_str()), (0, warning));
     assert_eq!(String::from_utf8(ran.out).unwrap(), nothing);
     let told = folder.run(&["scan", "--quiet", "--json", "zeros"]).told();

@@ -4,7 +4,7 @@ use std::fs::File;
 use std::io::{BufRead, BufReader, IsTerminal};
 use std::process::{Command, Stdio};
 
-use super::line::folder;
+use super::line::{folder, summary};
 use super::runs::Folder;
 
 /// Each opening of this device is a terminal of its own.
@@ -29,9 +29,9 @@ fn note(name: &str) -> String {
 fn a_line_to_a_terminal() {
     let terminal = terminal();
     let folder = folder("line-to-terminal");
-    let summary = "8 packets, 135 bytes; spoilt frames left out: 0\n";
+    let summary = summary(8, 135);
     let ran = folder.run(&["line", "bits", "-o", TERMINAL]);
-    assert_eq!((ran.status, ran.err), (0, note(TERMINAL) + summary));
+    assert_eq!((ran.status, ran.err), (0, note(TERMINAL) + &summary));
     let child = folder
         .command(&["line", "bits", "-o", "-"])
         .stdout(terminal)
@@ -40,7 +40,7 @@ fn a_line_to_a_terminal() {
     let output = child.unwrap().wait_with_output().unwrap();
     assert!(output.status.success());
     let said = String::from_utf8(output.stderr).unwrap();
-    assert_eq!(said, note("standard output") + summary);
+    assert_eq!(said, note("standard output") + &summary);
 }
 
 /// The note comes before the first byte, for which the program waits here: nobody sends one.

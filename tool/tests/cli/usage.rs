@@ -263,7 +263,7 @@ fn quiet() {
         loud.err
     };
     let said = both(&["encode", "plan", "-o", "bits"]);
-    assert!(said.contains("\nwarning: circuit 1"), "{said}");
+    assert!(said.contains("\naes18: warning: circuit 1"), "{said}");
     assert!(both(&["line", "bits", "-o", "line"]).starts_with("2 packets, "));
     assert_eq!(both(&["decode", "bits"]), "listening to 01, 02\n");
     assert_eq!(both(&["show", "bits", "--svg=-"]), "listening to 01, 02\n");
