@@ -30,7 +30,8 @@ impl Unit {
         }
     }
 
-    /// From how much in no frame on a loss is known only modulo 8: seven of the shortest frames, each a packet of 2 bytes, its FCS and a flag.
+    /// From how much in no frame on a loss is known only modulo 8: seven of the shortest bodies of a circuit, each a packet of 3 bytes and its FCS. One of
+    /// 2 bytes has no segment and is Malformed; flags are not counted, as frames may share them.
     pub fn doubtful(self) -> u64 {
         match self {
             Unit::Bit => 7 * 40,
@@ -50,6 +51,8 @@ pub struct Account {
     pub gaps: u64,
     pub free: u64,
     pub before: u64,
+    /// What of that no recording may begin with.
+    noise: u64,
     /// Packets of circuits that are not listed whose loss, or which as a copy, is known only modulo 8, where these are surveyed.
     pub unlisted: u64,
     /// The messages open at the end.
@@ -87,6 +90,7 @@ impl Account {
             gaps: 0,
             free: 0,
             before: 0,
+            noise: 0,
             unlisted: 0,
             unfinished: Vec::new(),
             circuits: circuits.iter().copied().map(Packets::new).collect(),
@@ -110,7 +114,10 @@ impl Account {
     /// Counts a stretch in no frame.
     pub fn gap(&mut self, gap: &Gap) {
         match gap.first {
-            true => self.before += gap.length(),
+            true => {
+                self.before += gap.length();
+                self.noise += if gap.wrong { gap.length() } else { 0 };
+            }
             false => {
                 self.gaps += 1;
                 self.free += gap.length();
@@ -148,6 +155,7 @@ impl Account {
             (packets(|of| of.dropped), "message", "dropped"),
             (self.unfinished.len() as u64, "message", "open at the end"),
             (self.modulo(), "place", "known only modulo 8"),
+            (self.noise, self.unit.name(), "before the first flag"),
             (self.free, self.unit.name(), "in no frame"),
         ];
         let words: Vec<String> = faults

@@ -62,7 +62,9 @@ same way the packets of LINE. The four circuits with most packets, copies not
 counted, are then listened to, of those with as many those heard first. Which,
 and which not, is said on the standard error. Where no packet of a circuit
 passes there is none in the totals, and the other notices are told. The standard
-input, a pipe or a device is told as it comes, and needs --circuits.
+input, a pipe or a device is told as it comes, and needs --circuits. What is
+lost, orphaned, wrong, dropped, open or known only modulo 8 is found at circuits
+that are listened to, and of no others does --strict judge it.
 
 A line for each notice: how many bits were read when it was told, which is the
 number, from 0, of the first bit behind the closing flag; then
@@ -94,7 +96,10 @@ of aes18 encode takes them.
         nothing was sent. Up to seven zeros that end the file, behind closing
         ones or a flag, are the last byte's spare bits and in no stretch.
   bits 0 to 11: before the first flag, 12 bits
-        the recording may begin inside a frame; --strict lets this pass
+        --strict lets this pass where a recording may begin with it: inside a
+        frame, which has 208 bits at most before the flag behind it and no seven
+        ones in a row, or inside closing ones, which are nothing but ones and,
+        with --block N, fewer than N
   loss 0 modulo 8 (2048 bits in no frame)
         since the circuit's packet before this one so much was in no frame, 280
         bits or more, that seven packets may be lost in it. So the true loss may
@@ -103,8 +108,8 @@ of aes18 encode takes them.
   message dropped
         the message that was open there is not handed over
 
-No trace is left by bits that are missing altogether, by dropouts to flags and,
-without --block, by dropouts to ones behind a flag.
+No trace is left by bits that are missing altogether, by dropouts to flags and
+by dropouts to ones behind a flag, with --block only up to its block's end.
 
 At the end stand the totals: for each circuit the packets that came, copies not
 counted; the copies; the packets lost; how many of these losses and copies are
@@ -149,6 +154,8 @@ bytes, and from 35 bytes on a loss behind them is known only modulo 8. Bytes
 before the first flag and behind the last give no packet either, such as a last
 frame whose closing flag is missing; the totals say how many there are, with
 --json in the members before and behind.
+Up to 42 bytes before the first flag --strict lets pass, as a line may begin
+inside a frame.
 
 What was in no frame in the bits that the line was written from leaves no trace
 on it. So a loss or a Copy that decode of these bits marks as known only modulo
@@ -167,7 +174,8 @@ that it must be raw; it is read all the same.
 Where the standard error is a terminal and the standard output is not, a bar
 shows how far a long reading has come.
 Exit status: 0; 1 for a refusal or a file that cannot be read; 2 for wrong
-usage; 3 where --strict finds something, after all is told.
+usage; 3 where --strict finds something, after all is told. With --strict or
+--messages a standard output that is closed early does not end the reading.
 "#;
 
 /// What the command line asks for.
@@ -280,8 +288,8 @@ impl Request {
         let folder = self.messages.as_deref().map(Folder::open).transpose()?;
         let block = self.block.is_some();
         let teller = match self.json {
-            true => Teller::new(unit, circuits, block, folder, &Json),
-            false => Teller::new(unit, circuits, block, folder, &Text),
+            true => Teller::new(unit, circuits, block, folder, self.strict, &Json),
+            false => Teller::new(unit, circuits, block, folder, self.strict, &Text),
         };
         Ok(Decoder { source, teller })
     }

@@ -11,12 +11,15 @@ const WHOLE: u64 = u64::from_le_bytes([FLAG; 8]);
 const WHOLE_BITS: u64 = 8 * FLAG_BITS;
 const SHARED: u64 = 0x7E_FDFB_F7EF_DFBF;
 const SHARED_BITS: u64 = 7 * FLAG_BITS;
+/// The most bits that a recording which begins inside a frame has before the flag behind it: all but the first bit of a flag, and the longest body, of 21
+/// bytes with 33 stuffed zeros.
+const LONGEST_PART: u64 = FLAG_BITS - 1 + 201;
 
 /// What a stretch of bits is.
 #[derive(Clone, Copy, Debug, PartialEq, Eq)]
 pub enum Kind {
-    /// The bits before the first flag.
-    Before,
+    /// The bits before the first flag; whether a recording may begin with them, inside a frame or inside closing ones.
+    Before { cut: bool },
     /// The closing ones of a block: ones directly behind a flag, up to the block's end where its length is known.
     Idle,
     /// Other bits that gave no notice: void, too few, or behind the last flag. Where there is no flag, all are.
@@ -56,6 +59,8 @@ enum Place {
     /// No flag was read yet.
     #[default]
     Before,
+    /// Nor was one, but seven ones in a row, which no frame has.
+    Unframed,
     /// Behind a flag.
     Body,
     /// Among closing ones, seven or more.
@@ -207,16 +212,19 @@ impl Extents {
         }
     }
 
-    /// So many ones. The seventh in a row voids a body; where they stand directly behind the flag they are closing ones.
+    /// So many ones. The seventh in a row voids a body, and is in none before the first flag; where they stand directly behind the flag they are closing
+    /// ones.
     fn ones(&mut self, count: u64) -> u64 {
         let first = self.at - self.ones;
         self.ones += count;
         self.zeros = 0;
         self.at += count;
-        if self.ones >= 7 && self.place == Place::Body {
-            self.place = match first == self.from && self.from < self.block_end() {
-                true => Place::Idle,
-                false => Place::Void,
+        if self.ones >= 7 {
+            self.place = match self.place {
+                Place::Before => Place::Unframed,
+                Place::Body if first == self.from && self.from < self.block_end() => Place::Idle,
+                Place::Body => Place::Void,
+                other => other,
             };
         }
         count
@@ -248,7 +256,10 @@ impl Extents {
         let first = self.at - 7;
         match (notice, self.place) {
             (Some(notice), _) => self.cut(first, Kind::Body(Heard::plain(notice))),
-            (None, Place::Before) => self.cut(first, Kind::Before),
+            (None, Place::Before | Place::Unframed) => {
+                let cut = self.may_begin(first);
+                self.cut(first, Kind::Before { cut });
+            }
             (None, Place::Body) if self.zero >= first => self.cut_ones(first),
             (None, _) => self.cut(first, Kind::Void),
         }
@@ -256,6 +267,14 @@ impl Extents {
         self.place = Place::Body;
         self.zero = u64::MAX;
         self.zeros = 0;
+    }
+
+    /// Whether a recording may begin with bit 0 where the first flag begins with this bit: inside a frame, or inside closing ones, of which a block has
+    /// some before its end and a flag before them.
+    fn may_begin(&self, flag: u64) -> bool {
+        let in_frame = self.place == Place::Before && flag <= LONGEST_PART;
+        let in_ones = self.zero >= flag && self.block.is_none_or(|bits| flag < bits);
+        in_frame || in_ones
     }
 
     /// Seven or more ones end before this bit. Those behind the block's end are no closing ones, and nor is what stands behind them.
@@ -320,14 +339,14 @@ mod tests {
     use super::*;
 
     /// The stretches that were cut, each as its kind's letter and its length.
-    fn letters(mut extents: Extents) -> String {
-        extents.end();
+    fn letters(extents: &Extents) -> String {
         let mut end = 0;
         let letters = extents.known.iter().map(|stretch| {
             assert_eq!(stretch.from, end);
             end = stretch.to;
             let letter = match stretch.kind {
-                Kind::Before => 's',
+                Kind::Before { cut: true } => 's',
+                Kind::Before { cut: false } => 'n',
                 Kind::Idle => 'i',
                 Kind::Void => 'v',
                 Kind::Flag => 'f',
@@ -346,7 +365,8 @@ mod tests {
             let notice = bits.next_if_eq(&'|').map(|_| Notice::Spoilt);
             extents.follow(&[u8::from(bit == '1')], 0, 1, notice);
         }
-        letters(extents)
+        extents.end();
+        letters(&extents)
     }
 
     fn cut(text: &str) -> String {
@@ -365,7 +385,7 @@ mod tests {
         assert_eq!(cut("1111110 1"), "v8");
         assert_eq!(cut("1111110 1111110"), "s6 f8");
         assert_eq!(cut("01111111 0"), "v9");
-        assert_eq!(cut("01111111 01111110"), "s8 f8");
+        assert_eq!(cut("01111111 01111110"), "n8 f8");
     }
 
     #[test]
@@ -395,6 +415,33 @@ mod tests {
         assert_eq!(cut("0000 0000"), "v8");
         assert_eq!(cut("1111 1111"), "v8");
         assert_eq!(cut("000"), "v3");
+    }
+
+    /// A recording may begin inside a frame, which has no seven ones and 208 bits at most before its flag, or inside closing ones.
+    #[test]
+    fn where_a_recording_may_begin() {
+        let before = |bits: &str| cut(&format!("{bits} 01111110"));
+        let zeros = |count| "0".repeat(count);
+        let ones = |count| "1".repeat(count);
+        assert_eq!(before(&zeros(208)), "s208 f8");
+        assert_eq!(before(&zeros(209)), "n209 f8");
+        assert_eq!(before(&format!("1111110 {}", zeros(201))), "s208 f8");
+        assert_eq!(before("1111110 11111"), "s12 f8");
+        for count in [1, 6, 7, 208, 209, 5000] {
+            assert_eq!(before(&ones(count)), format!("s{count} f8"));
+        }
+        assert_eq!(before("0 1111111"), "n8 f8");
+        assert_eq!(before("0 1111111 000"), "n11 f8");
+        assert_eq!(before("1111111 0"), "n8 f8");
+        assert_eq!(before(&format!("1111111 {}", zeros(300))), "n307 f8");
+        for (count, expected) in [(19, "s19 f8"), (20, "n20 f8"), (21, "n21 f8")] {
+            let bits = format!("{} 01111110", ones(count));
+            assert_eq!(cut_in_blocks(20, &bits), expected);
+        }
+        assert_eq!(
+            cut_in_blocks(20, &format!("{} 01111110", zeros(50))),
+            "s50 f8"
+        );
     }
 
     #[test]
@@ -479,10 +526,12 @@ mod tests {
                 assert_eq!(joined.is_idle(), by_bits.is_idle());
                 from = to;
             }
+            at_once.end();
+            by_bits.end();
+            joined.end();
+            assert_eq!(letters(&at_once), letters(&by_bits), "{bytes:02X?}");
             assert_eq!(in_runs(&joined.known), in_runs(&by_bits.known));
             joins += usize::from(joined.known.len() < by_bits.known.len());
-            assert_eq!(letters(at_once), letters(by_bits), "{bytes:02X?}");
-            letters(joined);
         }
         assert!(joins > 300, "{joins}");
     }

@@ -9,6 +9,8 @@ pub struct Gap {
     pub to: u64,
     /// Whether it is what stands before the first flag.
     pub first: bool,
+    /// Whether it is something that went wrong: all are but the first where a recording may begin with it.
+    pub wrong: bool,
 }
 
 impl Gap {
@@ -41,18 +43,26 @@ pub struct Gaps {
 }
 
 impl Gaps {
-    /// What stands before the first flag, a stretch of its own.
-    pub fn before(&mut self, from: u64, to: u64) {
-        let first = true;
-        self.known.push(Gap { from, to, first });
+    /// What stands before the first flag, a stretch of its own; `cut` says whether a recording may begin with it.
+    pub fn before(&mut self, from: u64, to: u64, cut: bool) {
+        self.known.push(Gap {
+            from,
+            to,
+            first: true,
+            wrong: !cut,
+        });
         self.edge = Edge::Free;
     }
 
     /// Something in no frame.
     pub fn free(&mut self, from: u64, to: u64) {
         let from = self.open().unwrap_or(from);
-        let first = false;
-        self.open = Some(Gap { from, to, first });
+        self.open = Some(Gap {
+            from,
+            to,
+            first: false,
+            wrong: true,
+        });
         self.edge = Edge::Free;
     }
 
@@ -109,13 +119,13 @@ impl Gaps {
 mod tests {
     use super::*;
 
-    /// The stretches of a text in which each letter stands for one unit: `b` before the first flag, `-` in no frame, `f` a flag, `F` a frame's body,
-    /// `i` closing ones. Each is answered as its first unit and the one behind its last, with `b` in front where it is the one before the first flag.
+    /// The stretches of a text in which each letter stands for one unit: `b` before the first flag, where a recording may begin with it, and `B` where none may, `-` in no frame, `f` a flag, `F` a frame's body,
+    /// `i` closing ones. Each is answered as its first unit and the one behind its last, with `b` or `B` in front where it is the one before the first flag.
     fn gaps(text: &str) -> Vec<String> {
         let mut gaps = Gaps::default();
         for (at, letter) in (0..).zip(text.chars()) {
             match letter {
-                'b' => gaps.before(at, at + 1),
+                'b' | 'B' => gaps.before(at, at + 1, letter == 'b'),
                 '-' => gaps.free(at, at + 1),
                 'f' => gaps.flag(at, at + 1),
                 _ => gaps.bound(),
@@ -123,16 +133,17 @@ mod tests {
         }
         gaps.end();
         let word = |gap: &Gap| {
-            format!(
-                "{}{}..{}",
-                if gap.first { "b" } else { "" },
-                gap.from,
-                gap.to
-            )
+            let first = match (gap.first, gap.wrong) {
+                (true, false) => "b",
+                (true, true) => "B",
+                (false, true) => "",
+                (false, false) => panic!("{gap:?}"),
+            };
+            format!("{first}{}..{}", gap.from, gap.to)
         };
         let known = gaps.take();
-        let judged = known.iter().filter(|gap| !gap.first);
-        assert_eq!(gaps.total(), judged.map(Gap::length).sum::<u64>());
+        let others = known.iter().filter(|gap| !gap.first);
+        assert_eq!(gaps.total(), others.map(Gap::length).sum::<u64>());
         known.iter().map(word).collect()
     }
 
@@ -172,5 +183,7 @@ mod tests {
         assert_eq!(gaps("bf-fFf"), ["b0..1", "1..3"]);
         assert_eq!(gaps("bff-"), ["b0..1", "3..4"]);
         assert_eq!(gaps("bf"), ["b0..1", "1..2"]);
+        assert_eq!(gaps("BfFf"), ["B0..1"]);
+        assert_eq!(gaps("Bf-fFf"), ["B0..1", "1..3"]);
     }
 }

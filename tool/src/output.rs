@@ -1,13 +1,17 @@
 //! The standard output and the standard error.
 
 use std::env;
-use std::io::{self, Write};
+use std::io::{self, BufWriter, Write};
 use std::ops::RangeInclusive;
 use std::sync::atomic::{AtomicBool, Ordering};
+
+use rustix::termios::{tcgetwinsize, Winsize};
 
 /// Columns that a text for people may have, and those it has where nothing says another number.
 pub const WIDTHS: RangeInclusive<u64> = 40..=1000;
 pub const WIDTH: usize = 80;
+/// Columns that a line is indented by.
+const INDENT: usize = 2;
 
 /// Whether nothing but errors is said.
 static QUIET: AtomicBool = AtomicBool::new(false);
@@ -32,6 +36,18 @@ pub fn print(text: &str) -> io::Result<()> {
 /// What a warning begins with.
 pub const WARNING: &str = "aes18: warning: ";
 
+/// The standard output for what is told of an input: with `at_once` each line is written when it ends, as of an input that comes bit by bit. With `to_end`
+/// the reading goes on where it is closed at the other end.
+pub fn stdout(at_once: bool, to_end: bool) -> Box<dyn Write> {
+    let stdout = io::stdout().lock();
+    match (at_once, to_end) {
+        (true, true) => Box::new(Unread(stdout)),
+        (true, false) => Box::new(stdout),
+        (false, true) => Box::new(BufWriter::new(Unread(stdout))),
+        (false, false) => Box::new(BufWriter::new(stdout)),
+    }
+}
+
 /// Says an error on the standard error; where that cannot be written there is nobody to tell.
 pub fn say_error(line: &str) {
     let _ = writeln!(io::stderr(), "{line}");
@@ -51,15 +67,25 @@ pub fn say_raw(name: &str) {
     ));
 }
 
-/// The terminal's columns: what COLUMNS says, or else the terminal of the standard output, or else 80.
+/// The columns of the standard output.
 pub fn width() -> usize {
+    columns(tcgetwinsize(io::stdout()).ok())
+}
+
+/// The columns of the standard error.
+pub fn error_width() -> usize {
+    columns(tcgetwinsize(io::stderr()).ok())
+}
+
+/// The columns that COLUMNS says, or else those of the terminal, or else 80.
+fn columns(terminal: Option<Winsize>) -> usize {
     let columns = env::var("COLUMNS")
         .ok()
         .and_then(|columns| columns.parse().ok());
-    let terminal = || terminal_size::terminal_size().map(|(width, _)| u64::from(width.0));
+    let terminal = terminal.map(|size| u64::from(size.ws_col));
     columns
         .filter(|columns| WIDTHS.contains(columns))
-        .or_else(terminal)
+        .or(terminal.filter(|columns| *columns > 0))
         .map_or(WIDTH, |columns| columns as usize)
 }
 
@@ -71,18 +97,37 @@ pub fn count(number: u64, what: &str) -> String {
 
 /// A text in lines of at most 80 columns, as far as its words allow; all but the first are indented.
 pub fn folded(text: &str) -> String {
+    fold(text, 0)
+}
+
+/// The same as an item of a list, all of which is indented.
+pub fn item(text: &str) -> String {
+    fold(text, INDENT)
+}
+
+/// Folds a text whose first line is indented so much, and the others more.
+fn fold(text: &str, indent: usize) -> String {
+    let further = indent + INDENT;
     let mut folded = String::new();
     let mut column = 0;
     for word in text.split(' ') {
         let length = word.chars().count();
-        let (space, at) = match column {
-            0 => ("", 0),
-            _ if column + 1 + length > WIDTH => ("\n  ", 2),
-            _ => (" ", column + 1),
+        column = match column {
+            0 => {
+                folded += &" ".repeat(indent);
+                indent
+            }
+            _ if column + 1 + length > WIDTH => {
+                folded += &format!("\n{:further$}", "");
+                further
+            }
+            _ => {
+                folded.push(' ');
+                column + 1
+            }
         };
-        folded += space;
         folded += word;
-        column = at + length;
+        column += length;
     }
     folded
 }
@@ -124,6 +169,9 @@ mod tests {
             folded(&format!("{word}x {word}x")),
             format!("{word}x\n  {word}x")
         );
+        assert_eq!(item("a few words"), "  a few words");
+        assert_eq!(item(&line[2..]), format!("  {}", &line[2..]));
+        assert_eq!(item(&line), format!("  {word}\n    {word}"));
         let long = "x".repeat(100);
         assert_eq!(folded(&format!("{long} b")), format!("{long}\n  b"));
     }

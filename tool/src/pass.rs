@@ -76,7 +76,7 @@ impl Pass {
         let mut last = None;
         for Stretch { from, to, kind } in &mut self.extents.known {
             match kind {
-                Kind::Before => self.gaps.before(*from, *to),
+                Kind::Before { cut } => self.gaps.before(*from, *to, *cut),
                 Kind::Void => self.gaps.free(*from, *to),
                 Kind::Idle => self.gaps.bound(),
                 Kind::Flag => self.gaps.flag(*from, *to),

@@ -48,7 +48,7 @@ impl Progress {
         if !self.wanted || Instant::now() < self.due {
             return;
         }
-        let line = line(self.done, self.total, output::width());
+        let line = line(self.done, self.total, output::error_width());
         let _ = write!(io::stderr(), "\r\x1b[K{line}");
         self.drawn = true;
         self.due = Instant::now() + AGAIN;

@@ -4,7 +4,7 @@ mod listening;
 mod survey;
 
 use std::ffi::OsString;
-use std::io::{self, BufWriter, Write};
+use std::io::{self, Write};
 
 use serde_json::json;
 
@@ -15,7 +15,7 @@ use crate::formats::{self, Choice, Formats};
 use crate::gaps::Gap;
 use crate::input::{Content, Input};
 use crate::json::{line, GapObject, Members, Only};
-use crate::output::folded;
+use crate::output::{self, folded};
 use crate::progress::Progress;
 pub use listening::Listening;
 use survey::Heard;
@@ -61,8 +61,8 @@ no packet such as a sender makes, and name no circuit); then how much is in no
 frame, as aes18 decode tells it, how many places are known only modulo 8, and
 the stretches in no frame, the first 40 of them.
 
-No trace is left by bits that are missing altogether, by dropouts to flags and,
-without --block, by dropouts to ones behind a flag.
+No trace is left by bits that are missing altogether, by dropouts to flags and
+by dropouts to ones behind a flag, with --block only up to its block's end.
 
 With --json a circuit has the members circuit, packets, copies, bytes, modulo8,
 from and to. Before the circuits each stretch in no frame has an object as that
@@ -100,7 +100,7 @@ pub fn run(args: Args) -> Result<(), Error> {
         json: request.json,
         block: request.block.is_some(),
         gaps: Vec::new(),
-        out: BufWriter::new(io::stdout().lock()),
+        out: output::stdout(input.length().is_none(), false),
     };
     while let Some(chunk) = input.chunk()? {
         listing.gaps(&survey.read(chunk.bytes, chunk.bits)?)?;

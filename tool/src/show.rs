@@ -11,14 +11,14 @@ mod terminal;
 mod words;
 
 use std::ffi::OsStr;
-use std::io::{self, BufWriter, Write};
+use std::io::{self, Write};
 
 use crate::args::Args;
 use crate::draft::Draft;
 use crate::error::Error;
 use crate::formats;
 use crate::input::{Chunk, Content, Input};
-use crate::output::{folded, say};
+use crate::output::{self, folded, say};
 use crate::pass::Pass;
 use crate::progress::Progress;
 use layout::{Layout, Part};
@@ -62,7 +62,9 @@ circuits with most packets, copies not counted, are then listened to, of those
 with as many those heard first. Which, and which not, stands above the picture,
 or behind the name of FILE. Where no packet of a circuit passes there is none in
 the figures. The standard input, a pipe or a device is told as it comes, and
-needs --circuits.
+needs --circuits. What is lost, orphaned, wrong, dropped, open or known only
+modulo 8 is found at circuits that are listened to, and of no others does
+--strict judge it.
 
 A row begins with its block's number, or that of its first bit. Each character
 behind it stands for as many bits as the first line says, and shows the most
@@ -86,14 +88,20 @@ Behind the picture stand the figures of each kind, those of the circuits and the
 places that went wrong, with their bits, in the words of aes18 decode, whose
 help says what they mean. A body's bits are those between its flags. The bits in
 no frame are told as stretches, with the spoilt ones and the flags that border
-nothing else. Whole messages, their bytes, orphans and lost packets stop at
+nothing else. Those before the first flag are no place that went wrong, and let
+pass by --strict, where a recording may begin with them: inside a frame, which
+has 208 bits at most before the flag behind it and no seven ones in a row, or
+inside closing ones, which are nothing but ones and, with --block N, fewer than
+N. A message that is open at the end is one of the places.
+Whole messages, their bytes, orphans and lost packets stop at
 4,294,967,295, which stands for that many or more. Bits and blocks are numbered
 from 0. With --from and --to the pass is still read from its first bit; figures
-and places are of what is shown. Up to seven zeros at the end, behind closing
-ones or a flag, are the last byte's spare bits and are not shown.
+and places are of what is shown, and a place is told whole where a part of it
+is. Up to seven zeros at the end, behind closing ones or a flag, are the last
+byte's spare bits and are not shown.
 
-No trace is left by bits that are missing altogether, by dropouts to flags and,
-without --block, by dropouts to ones behind a flag.
+No trace is left by bits that are missing altogether, by dropouts to flags and
+by dropouts to ones behind a flag, with --block only up to its block's end.
 
 With --svg the picture goes to FILE in place of the terminal; with - nothing but
 the picture is written to the standard output. It says what a frame is when
@@ -105,7 +113,8 @@ how many do in other formats and channels. Where the standard error is a
 terminal, and no picture goes to one, a bar shows how far a long reading has
 come.
 Exit status: 0; 1 for a file that cannot be read or written; 2 for wrong usage;
-3 where --strict finds something, after all is told.
+3 where --strict finds something, after all is told. With --strict a standard
+output that is closed early does not end the reading.
 ";
 
 /// Runs the subcommand.
@@ -121,7 +130,7 @@ pub fn run(args: Args) -> Result<(), Error> {
 fn show_in_terminal(options: &Options) -> Result<(), Error> {
     let failed = |error: io::Error| Error::stdout(&error);
     let mut input = Input::open(&options.bits, Content::Bits(options.formats))?;
-    let mut out = BufWriter::new(io::stdout().lock());
+    let mut out = output::stdout(input.length().is_none(), options.strict);
     write_listening(&mut out, options).map_err(failed)?;
     let mut picture = Terminal::new(out, &input, options);
     let progress = Progress::beside_output(input.length());
@@ -147,7 +156,11 @@ fn write_svg(options: &Options, file: &OsStr) -> Result<(), Error> {
     })?;
     input.end()?;
     let start = picture.end(&tally).map_err(failed)?;
-    let length = picture.out.finish(&start)?;
+    let length = match picture.out.finish(&start) {
+        // A standard output that is closed early is judged all the same.
+        Err(Error::Closed) if options.strict => 0,
+        finished => finished?,
+    };
     match (file == "-", &options.listening) {
         (true, Some(listening)) => say(&folded(&listening.to_string())),
         (true, None) => {}
@@ -175,7 +188,7 @@ fn write_listening(out: &mut impl Write, options: &Options) -> io::Result<()> {
 /// Says what was written to a file, with its figures and places.
 fn report_svg(options: &Options, tally: &Tally, name: &str, length: u64) -> Result<(), Error> {
     let failed = |error: io::Error| Error::stdout(&error);
-    let mut out = BufWriter::new(io::stdout().lock());
+    let mut out = output::stdout(false, options.strict);
     writeln!(out, "{name}: {length} bytes").map_err(failed)?;
     write_listening(&mut out, options).map_err(failed)?;
     report::write(&mut out, options, tally).map_err(failed)?;
@@ -253,16 +266,18 @@ impl<D: FnMut(&Part<'_>) -> Result<(), Error>> Drawing<'_, D> {
     fn add(&mut self) -> Result<(), Error> {
         let layout = self.layout;
         for stretch in self.pass.stretches() {
-            if layout.shows(stretch.from, stretch.to) {
-                self.tally.add(stretch);
+            let shown = layout.shown(stretch.from, stretch.to);
+            if !shown.is_empty() {
+                self.tally.add(stretch, &shown);
                 layout
                     .parts(stretch)
                     .try_for_each(|part| (self.draw)(&part))?;
             }
         }
         for gap in self.pass.gaps() {
-            if layout.shows(gap.from, gap.to) {
-                self.tally.add_gap(&gap);
+            let shown = layout.shown(gap.from, gap.to);
+            if !shown.is_empty() {
+                self.tally.add_gap(&gap, &shown);
             }
         }
         Ok(())

@@ -224,7 +224,8 @@ wrong                       0                0
   block 3, bits 833 to 993: 02:07, loss 1, message dropped, Orphan
   block 7, bits 1800 to 1895: in no frame, 96 bits
   block 7, bits 2036 to 2131: 01, loss 1, Whole, length 7
-No trace is left by bits missing altogether and dropouts to flags.
+No trace is left by bits missing altogether, dropouts to flags and
+dropouts to ones behind a flag up to its block's end.
 ";
 
 const BLOCKS: [&str; 4] = ["--circuits", "01,02:07", "--block", "256"];
@@ -323,11 +324,11 @@ dropped                     0
 orphans                     1
 wrong                       1
 
-3 places went wrong:
+4 places went wrong:
   bits 8 to 79: 01, loss 0, Wrong
   bits 376 to 439: 01, loss 0, Orphan
   bits 898 to 986: Malformed
-01: open at the end, 30 of 32 bytes, begun by the frame before bit 616
+  01: open at the end, 30 of 32 bytes, begun by the frame before bit 616
 No trace is left by bits missing altogether, dropouts to flags and,
 without --block, dropouts to ones behind a flag.
 ";

@@ -123,16 +123,20 @@ pub fn unfinished_words(account: &Account, message: &Unfinished) -> String {
 }
 
 /// What leaves no trace, so that nothing is told of it.
-pub fn untraced(unit: Unit, block: bool) -> Vec<&'static str> {
+pub fn untraced(unit: Unit, block: bool) -> [&'static str; 3] {
     let flags = "dropouts to flags";
     match (unit, block) {
-        (Unit::Bit, true) => vec!["bits missing altogether", flags],
-        (Unit::Bit, false) => vec![
+        (Unit::Bit, true) => [
+            "bits missing altogether",
+            flags,
+            "dropouts to ones behind a flag up to its block's end",
+        ],
+        (Unit::Bit, false) => [
             "bits missing altogether",
             flags,
             "dropouts to ones behind a flag",
         ],
-        (Unit::Byte, _) => vec![
+        (Unit::Byte, _) => [
             "bytes missing altogether",
             flags,
             "what was in no frame in the bits that the line was written from",
@@ -142,13 +146,10 @@ pub fn untraced(unit: Unit, block: bool) -> Vec<&'static str> {
 
 /// The same as text.
 pub fn untraced_words(unit: Unit, block: bool) -> String {
-    match (unit, &untraced(unit, block)[..]) {
-        (Unit::Bit, [missing, flags, ones]) => {
-            format!("No trace is left by {missing}, {flags} and,\nwithout --block, {ones}.")
-        }
-        (Unit::Byte, [missing, flags, bits]) => {
-            format!("No trace is left by {missing}, {flags} and\n{bits}.")
-        }
-        (_, all) => format!("No trace is left by {}.", all.join(" and ")),
-    }
+    let [missing, flags, last] = untraced(unit, block);
+    let and = match (unit, block) {
+        (Unit::Bit, false) => "and,\nwithout --block, ",
+        _ => "and\n",
+    };
+    format!("No trace is left by {missing}, {flags} {and}{last}.")
 }

@@ -17,7 +17,7 @@ pub struct Json;
 
 impl Format for Json {
     fn listening(&self, out: &mut Vec<u8>, listening: &Listening) -> io::Result<()> {
-        line(out, &listening.json())
+        line(out, &Only("listening", listening))
     }
 
     fn notice(&self, out: &mut Vec<u8>, told: &Told<'_>) -> io::Result<()> {

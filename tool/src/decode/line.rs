@@ -1,10 +1,13 @@
 //! A serial line being read.
 
-use aes18::{LineRead, LineReader};
+use aes18::{LineRead, LineReader, LONGEST_LINE_FRAME};
 
 use super::format::Rest;
 use crate::frames::FLAG;
 use crate::gaps::{Gap, Gaps};
+
+/// The most bytes that a line which begins inside a frame has before the flag behind it.
+const LONGEST_PART: u64 = LONGEST_LINE_FRAME as u64 - 2;
 
 /// The library's reader, and what gave it no packet.
 #[derive(Default)]
@@ -40,7 +43,7 @@ impl Line {
         } else if self.from < at {
             match self.inside {
                 true => self.gaps.free(self.from, at),
-                false => self.gaps.before(self.from, at),
+                false => self.gaps.before(self.from, at, at <= LONGEST_PART),
             }
             self.dropped += u64::from(self.inside);
         }
@@ -85,7 +88,7 @@ mod tests {
     use crate::frames::on_line;
 
     /// Reads a line given in parts: its packets, how often bytes between two flags were dropped, how many stand behind the last flag, and the stretches
-    /// in no frame, of which the one before the first flag has `b` in front.
+    /// in no frame, of which the one before the first flag has `b` in front, or `B` where no line may begin with it.
     fn read(parts: &[&[u8]]) -> (Vec<Vec<u8>>, [u64; 2], String) {
         let mut line = Line::default();
         let mut packets = Vec::new();
@@ -104,7 +107,11 @@ mod tests {
         line.end();
         let gaps = line.gaps();
         let gaps = gaps.iter().map(|gap| {
-            let first = if gap.first { "b" } else { "" };
+            let first = match (gap.first, gap.wrong) {
+                (true, false) => "b",
+                (true, true) => "B",
+                (false, _) => "",
+            };
             format!("{first}{}..{}", gap.from, gap.to)
         });
         let gaps = gaps.collect::<Vec<_>>().join(" ");
@@ -133,6 +140,17 @@ mod tests {
         for (line, rest, gaps) in cases {
             let expected = (Vec::new(), rest, gaps.to_string());
             assert_eq!(read(&[line]), expected, "{line:?}");
+        }
+    }
+
+    /// A line may begin inside a frame, which has 42 bytes at most between its flags.
+    #[test]
+    fn where_a_line_may_begin() {
+        let longest = on_line(&[FLAG; 19]).unwrap();
+        assert!(longest.len() as u64 <= LONGEST_PART + 2);
+        for (length, letter) in [(42, 'b'), (43, 'B')] {
+            let line = [&vec![0; length][..], b"~~"].concat();
+            assert_eq!(read(&[&line]).2, format!("{letter}0..{length}"));
         }
     }
 

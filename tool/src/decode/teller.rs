@@ -9,7 +9,7 @@ use super::format::{Format, Rest, Sum, Told};
 use crate::account::{Account, Heard, Unfinished, Unit};
 use crate::error::Error;
 use crate::gaps::Gap;
-use crate::output::Unread;
+use crate::output;
 use crate::scan::Listening;
 
 /// Bytes of what is told that are kept before they are written.
@@ -31,12 +31,13 @@ pub struct Teller {
 }
 
 impl Teller {
-    /// Nothing told yet. Where messages are written to a folder, a standard output that is closed does not end the reading.
+    /// Nothing told yet. Where messages are written to a folder, or all is judged, a standard output that is closed does not end the reading.
     pub fn new(
         unit: Unit,
         circuits: Vec<Circuit>,
         block: bool,
         folder: Option<Folder>,
+        strict: bool,
         format: &'static dyn Format,
     ) -> Teller {
         Teller {
@@ -44,10 +45,7 @@ impl Teller {
             circuits,
             read: 0,
             block,
-            stdout: match folder {
-                Some(_) => Box::new(Unread(io::stdout().lock())),
-                None => Box::new(io::stdout().lock()),
-            },
+            stdout: output::stdout(true, strict || folder.is_some()),
             folder,
             format,
             told: Vec::new(),

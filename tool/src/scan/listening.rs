@@ -5,7 +5,8 @@ use std::fmt::{self, Display, Formatter};
 use std::fs;
 
 use aes18::{Circuit, LineReader};
-use serde_json::{json, Value};
+use serde::ser::{Serialize, SerializeMap, Serializer};
+use serde_json::json;
 
 use super::survey::Survey;
 use crate::circuits::MOST;
@@ -13,6 +14,7 @@ use crate::error::Error;
 use crate::formats::Formats;
 use crate::frames;
 use crate::input::{Chunk, Content, Input};
+use crate::json::Members;
 use crate::output::count;
 use crate::progress::Progress;
 
@@ -56,14 +58,32 @@ impl Listening {
     pub fn circuits(&self) -> Vec<Circuit> {
         self.to.iter().map(|(circuit, _)| *circuit).collect()
     }
+}
 
-    /// As an object with the circuits listened to and the others.
-    pub fn json(&self) -> Value {
-        let all = |circuits: &[(Circuit, u64)]| -> Vec<Value> {
-            let object = |(circuit, packets): &(Circuit, u64)| json!({ "circuit": circuit.to_string(), "packets": packets });
-            circuits.iter().map(object).collect()
+/// An object with the circuits listened to and the others.
+impl Serialize for Listening {
+    fn serialize<S: Serializer>(&self, serializer: S) -> Result<S::Ok, S::Error> {
+        let all = |circuits: &[(Circuit, u64)]| -> Vec<CircuitObject> {
+            circuits.iter().copied().map(CircuitObject).collect()
         };
-        json!({ "listening": { "to": all(&self.to), "not": all(&self.not_to) } })
+        let mut members = serializer.serialize_map(None)?;
+        members.serialize_entry("to", &all(&self.to))?;
+        members.serialize_entry("not", &all(&self.not_to))?;
+        members.end()
+    }
+}
+
+/// A circuit with its packets.
+struct CircuitObject((Circuit, u64));
+
+impl Serialize for CircuitObject {
+    fn serialize<S: Serializer>(&self, serializer: S) -> Result<S::Ok, S::Error> {
+        let (circuit, packets) = self.0;
+        let members = [
+            ("circuit", json!(circuit.to_string())),
+            ("packets", json!(packets)),
+        ];
+        Members(&members).serialize(serializer)
     }
 }
 
@@ -166,7 +186,9 @@ mod tests {
 
     #[test]
     fn as_json() {
-        let expected = r#"{"listening":{"not":[{"circuit":"63","packets":1}],"to":[{"circuit":"01","packets":99}]}}"#;
-        assert_eq!(listening(1, 1).json().to_string(), expected);
+        let expected =
+            r#"{"to":[{"circuit":"01","packets":99}],"not":[{"circuit":"63","packets":1}]}"#;
+        let written = serde_json::to_string(&listening(1, 1)).unwrap();
+        assert_eq!(written, expected);
     }
 }

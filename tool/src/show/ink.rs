@@ -30,7 +30,7 @@ impl Ink {
     pub fn of(kind: Kind) -> Ink {
         match kind {
             Kind::Idle => Ink::Idle,
-            Kind::Before | Kind::Void => Ink::Void,
+            Kind::Before { .. } | Kind::Void => Ink::Void,
             Kind::Flag => Ink::Flag,
             Kind::Body(Heard { notice, .. }) => Ink::of_notice(notice),
         }

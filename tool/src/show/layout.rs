@@ -1,5 +1,7 @@
 //! A pass in rows of a fixed number of bits.
 
+use std::ops::Range;
+
 use crate::extents::Stretch;
 
 /// How a pass is laid out, and which of its bits are shown.
@@ -29,16 +31,18 @@ pub struct Part<'a> {
 }
 
 impl Layout {
-    /// Whether some of the bits `from..to` is shown.
-    pub fn shows(&self, from: u64, to: u64) -> bool {
-        from.max(self.from) < to.min(self.to)
+    /// Which of the bits `from..to` are shown.
+    pub fn shown(&self, from: u64, to: u64) -> Range<u64> {
+        from.max(self.from)..to.min(self.to)
     }
 
     /// The parts of a stretch that is shown, row by row.
     pub fn parts<'a>(&self, stretch: &'a Stretch) -> impl Iterator<Item = Part<'a>> {
         let length = self.row;
-        let from = stretch.from.max(self.from);
-        let to = stretch.to.min(self.to);
+        let Range {
+            start: from,
+            end: to,
+        } = self.shown(stretch.from, stretch.to);
         (from / length..to.div_ceil(length)).map(move |row| {
             let first = from.max(row * length);
             Part {

@@ -8,7 +8,7 @@ use super::paint::Paint;
 use super::tally::Tally;
 use super::words::Words;
 use crate::account::{gap_words, table, unfinished_words, untraced_words, Unit};
-use crate::output::folded;
+use crate::output::item;
 
 /// Writes the legend, the figures and the list.
 pub fn write(out: &mut impl Write, options: &Options, tally: &Tally) -> io::Result<()> {
@@ -21,10 +21,6 @@ pub fn write(out: &mut impl Write, options: &Options, tally: &Tally) -> io::Resu
     places(out, words, tally)?;
     if let Some(before) = &tally.before {
         writeln!(out, "{}", gap_words(Unit::Bit, before))?;
-    }
-    for message in &tally.account.unfinished {
-        let words = unfinished_words(&tally.account, message);
-        writeln!(out, "{}", folded(&words))?;
     }
     writeln!(out, "{}", untraced_words(Unit::Bit, options.layout.blocks))
 }
@@ -71,9 +67,10 @@ fn marks(out: &mut impl Write, paint: Paint) -> io::Result<()> {
     )
 }
 
-/// The places that went wrong.
+/// The places that went wrong; behind the others the messages that are open at the end, all of them.
 fn places(out: &mut impl Write, words: Words<'_>, tally: &Tally) -> io::Result<()> {
-    match tally.wrong {
+    let open = &tally.account.unfinished;
+    match tally.wrong + open.len() {
         0 => return writeln!(out, "\nNo place went wrong."),
         1 => writeln!(out, "\n1 place went wrong:")?,
         count => writeln!(out, "\n{count} places went wrong:")?,
@@ -82,7 +79,10 @@ fn places(out: &mut impl Write, words: Words<'_>, tally: &Tally) -> io::Result<(
         writeln!(out, "  {}", words.place(place))?;
     }
     match tally.wrong - tally.places.len() {
-        0 => Ok(()),
-        more => writeln!(out, "  and {more} more (--all lists them)"),
+        0 => {}
+        more => writeln!(out, "  and {more} more (--all lists them)")?,
     }
+    open.iter()
+        .map(|message| item(&unfinished_words(&tally.account, message)))
+        .try_for_each(|message| writeln!(out, "{message}"))
 }

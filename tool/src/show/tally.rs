@@ -1,5 +1,7 @@
 //! What a picture shows, counted: the legend's figures and the places that went wrong.
 
+use std::ops::Range;
+
 use aes18::{Circuit, Fate, Notice};
 
 use crate::account::{Account, Heard, Unit};
@@ -30,11 +32,11 @@ pub struct Tally {
     pub idle: u64,
     /// The bit behind the last one.
     pub end: u64,
-    /// What stands before the first flag, where it is shown: the recording may begin inside a frame.
+    /// What stands before the first flag, where it is shown and the recording may begin with it.
     pub before: Option<Gap>,
     /// The first places that went wrong, in the order of the bits, as many as are kept.
     pub places: Vec<Place>,
-    /// How many places went wrong.
+    /// How many places went wrong, without the messages that are open at the end.
     pub wrong: usize,
     /// The most places that are kept.
     most: usize,
@@ -55,12 +57,12 @@ impl Tally {
         }
     }
 
-    /// Counts a stretch.
-    pub fn add(&mut self, stretch: &Stretch) {
+    /// Counts a stretch of which these bits are shown.
+    pub fn add(&mut self, stretch: &Stretch, shown: &Range<u64>) {
         self.end = stretch.to;
         match &stretch.kind {
-            Kind::Before | Kind::Void => {}
-            Kind::Idle => self.idle += stretch.to - stretch.from,
+            Kind::Before { .. } | Kind::Void => {}
+            Kind::Idle => self.idle += shown.end - shown.start,
             Kind::Flag => self.flags += 1,
             Kind::Body(heard) => {
                 self.account.notice(heard);
@@ -71,12 +73,16 @@ impl Tally {
         }
     }
 
-    /// Counts a stretch in no frame, which is known when it has ended.
-    pub fn add_gap(&mut self, gap: &Gap) {
-        self.account.gap(gap);
-        match gap.first {
-            true => self.before = Some(*gap),
-            false => self.keep(Place::Gap(*gap)),
+    /// Counts a stretch in no frame, which is known when it has ended, as far as these bits of it, which are shown.
+    pub fn add_gap(&mut self, gap: &Gap, shown: &Range<u64>) {
+        self.account.gap(&Gap {
+            from: shown.start,
+            to: shown.end,
+            ..*gap
+        });
+        match gap.wrong {
+            true => self.keep(Place::Gap(*gap)),
+            false => self.before = Some(*gap),
         }
     }
 

@@ -28,7 +28,7 @@ impl Words<'_> {
         let bits = account::place(Unit::Bit, stretch.from, stretch.to);
         let block = self.block(stretch.from);
         match &stretch.kind {
-            Kind::Before => format!("{block}{bits}: before the first flag"),
+            Kind::Before { .. } => format!("{block}{bits}: before the first flag"),
             Kind::Idle => format!("{block}{bits}: closing ones"),
             Kind::Void => format!("{block}{bits}: in no frame"),
             Kind::Flag => format!("{block}{bits}: flag"),

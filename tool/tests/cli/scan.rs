@@ -138,7 +138,8 @@ in no frame: 80 bits in 1 stretch
 before the first flag 0
 known only modulo 8: 0 places
   bits 0 to 79: in no frame, 80 bits
-No trace is left by bits missing altogether and dropouts to flags.
+No trace is left by bits missing altogether, dropouts to flags and
+dropouts to ones behind a flag up to its block's end.
 ";
     let ran = folder.run(&["scan", "--block=256", "zeros"]);
     let warning = "aes18: warning: zeros: no frame found, nor in another format or channel\n";
@@ -225,7 +226,7 @@ fn decode_without_a_circuit() {
         assert!(!told.contains("circuit"), "{told}");
         let json = folder.run(&[&["decode", "--json"], file].concat()).told();
         assert!(
-            json.starts_with("{\"listening\":{\"not\":[],\"to\":[]}}\n"),
+            json.starts_with("{\"listening\":{\"to\":[],\"not\":[]}}\n"),
             "{json}"
         );
         assert!(json.contains(",\"circuits\":[],"), "{json}");

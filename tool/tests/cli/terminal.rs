@@ -164,3 +164,19 @@ fn a_bar() {
         assert_eq!(shown(arguments), bar, "{arguments}");
     }
 }
+
+/// The bar is as wide as the terminal that it is drawn on, also where the standard output goes elsewhere.
+#[test]
+#[ignore = "needs a terminal: tests/terminal"]
+fn the_width_of_a_bar() {
+    let folder = folder("terminal-bar-width");
+    let long = File::create(folder.path("long")).unwrap();
+    long.set_len(100_000_000).unwrap();
+    let program = env!("CARGO_BIN_EXE_aes18");
+    let command = format!("'{program}' decode --circuits=01 long >out");
+    for (columns, length) in [(20, 5..=5), (45, 44..=44), (120, 64..=68)] {
+        let seen = seen(&folder, columns, &command);
+        let bar = seen.split("\r\x1b[K").find(|bar| bar.contains('%'));
+        assert!(length.contains(&bar.unwrap().len()), "{bar:?}");
+    }
+}
