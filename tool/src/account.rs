@@ -12,7 +12,7 @@ pub use history::{Heard, History, Unfinished};
 pub use table::{figures, table};
 pub use words::{
     fate_name, free_words, gap_words, modulo_words, place, unfinished_words, untraced,
-    untraced_words, Words,
+    untraced_words, NoticeWords,
 };
 
 /// What places are counted in: the bits of user bits, the bytes of a serial line.
@@ -58,13 +58,13 @@ pub struct Account {
     /// The messages open at the end.
     pub unfinished: Vec<Unfinished>,
     /// What the totals do not have of each circuit, by number.
-    circuits: Vec<Packets>,
+    circuits: Vec<CircuitCounts>,
     totals: Totals,
 }
 
 /// The packets of a circuit.
 #[derive(Clone, Copy, Debug)]
-pub struct Packets {
+pub struct CircuitCounts {
     pub circuit: Circuit,
     /// Packets that came, copies not counted.
     pub came: u64,
@@ -93,7 +93,7 @@ impl Account {
             noise: 0,
             unlisted: 0,
             unfinished: Vec::new(),
-            circuits: circuits.iter().copied().map(Packets::new).collect(),
+            circuits: circuits.iter().copied().map(CircuitCounts::new).collect(),
             totals: Totals::empty(),
         }
     }
@@ -126,7 +126,7 @@ impl Account {
     }
 
     /// The packets of each circuit, by number, and its figures in the totals.
-    pub fn circuits(&self) -> impl Iterator<Item = (&Packets, Figures)> {
+    pub fn circuits(&self) -> impl Iterator<Item = (&CircuitCounts, Figures)> {
         self.circuits.iter().zip(self.totals.circuits())
     }
 
@@ -145,7 +145,7 @@ impl Account {
     pub fn faults(&self) -> Option<String> {
         let figures = self.totals.circuits();
         let figures = |figure: fn(&Figures) -> u32| figures.iter().map(figure).map(u64::from).sum();
-        let packets = |figure: fn(&Packets) -> u64| self.circuits.iter().map(figure).sum();
+        let packets = |figure: fn(&CircuitCounts) -> u64| self.circuits.iter().map(figure).sum();
         let faults = [
             (figures(|of| of.lost), "packet", "lost"),
             (self.spoilt, "frame", "spoilt"),
@@ -167,9 +167,9 @@ impl Account {
     }
 }
 
-impl Packets {
-    fn new(circuit: Circuit) -> Packets {
-        Packets {
+impl CircuitCounts {
+    fn new(circuit: Circuit) -> CircuitCounts {
+        CircuitCounts {
             circuit,
             came: 0,
             copies: 0,
@@ -191,6 +191,6 @@ impl Packets {
             Fate::Whole(_) | Fate::Orphan => {}
         }
         self.dropped += u64::from(heard.dropped);
-        self.modulo += u64::from(heard.free.is_some());
+        self.modulo += u64::from(heard.doubt.is_some());
     }
 }

@@ -11,7 +11,7 @@ const EXPECTED: &str =
     "a circuit ADDR or ADDR:EXT, each one or two hex digits, such as 01 or 02:07";
 
 /// The most circuits that can be listed.
-pub const MOST: usize = 4;
+pub const MOST_CIRCUITS: usize = 4;
 /// The address of system packets.
 const SYSTEM: u8 = 0xFF;
 /// The bit of a packet's control byte that says that an extension stands behind it.
@@ -44,7 +44,7 @@ pub fn parse_list(text: &str) -> Result<Vec<Circuit>, String> {
         .collect::<Result<_, _>>()?;
     match circuits.len() {
         0 => Err(format!("expected {EXPECTED}")),
-        1..=MOST => check(&circuits).map(|()| circuits),
+        1..=MOST_CIRCUITS => check(&circuits).map(|()| circuits),
         more => Err(format!("expected one to four circuits, not {more}")),
     }
 }

@@ -1,7 +1,7 @@
 //! `aes18 decode`: what is in filed user bits, or on a serial line.
 
 mod folder;
-mod format;
+mod form;
 mod json;
 mod line;
 mod packets;

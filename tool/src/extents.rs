@@ -45,7 +45,7 @@ impl Stretch {
         let Kind::Body(heard) = self.kind else {
             return None;
         };
-        match (heard.notice, heard.free.is_some()) {
+        match (heard.notice, heard.doubt.is_some()) {
             (Notice::Circuit { loss: 0, .. }, false) => None,
             (Notice::Circuit { number, loss, .. }, modulo) => Some((number, loss, modulo)),
             _ => None,
@@ -55,7 +55,7 @@ impl Stretch {
 
 /// Where the bits stand that are in no known stretch.
 #[derive(Clone, Copy, Debug, Default, PartialEq, Eq)]
-enum Place {
+enum Position {
     /// No flag was read yet.
     #[default]
     Before,
@@ -84,7 +84,7 @@ pub struct Extents {
     at: u64,
     /// The first bit that is in no known stretch.
     from: u64,
-    place: Place,
+    place: Position,
     /// The first zero from there on; `u64::MAX` where there is none yet.
     zero: u64,
     /// Ones in a row before `at`, and zeros.
@@ -102,7 +102,7 @@ impl Extents {
             each_flag: false,
             at: 0,
             from: 0,
-            place: Place::Before,
+            place: Position::Before,
             zero: u64::MAX,
             ones: 0,
             zeros: 0,
@@ -111,7 +111,7 @@ impl Extents {
 
     /// Whether closing ones are read.
     pub fn is_idle(&self) -> bool {
-        self.place == Place::Idle
+        self.place == Position::Idle
     }
 
     /// Follows the bits `from..to` of the bytes, of which the last one gave the notice, if there is one.
@@ -183,7 +183,7 @@ impl Extents {
     /// Follows flags behind a flag at once, which are one stretch, where these bits are nothing else; answers how many bits that was.
     fn take_flags(&mut self, bits: u64) -> u64 {
         let begun = self.at - self.from;
-        if self.each_flag || self.place != Place::Body || begun >= FLAG_BITS {
+        if self.each_flag || self.place != Position::Body || begun >= FLAG_BITS {
             return 0;
         }
         let whole = begun == 0 || self.zero == self.from && self.ones == begun - 1;
@@ -221,9 +221,11 @@ impl Extents {
         self.at += count;
         if self.ones >= 7 {
             self.place = match self.place {
-                Place::Before => Place::Unframed,
-                Place::Body if first == self.from && self.from < self.block_end() => Place::Idle,
-                Place::Body => Place::Void,
+                Position::Before => Position::Unframed,
+                Position::Body if first == self.from && self.from < self.block_end() => {
+                    Position::Idle
+                }
+                Position::Body => Position::Void,
                 other => other,
             };
         }
@@ -232,7 +234,7 @@ impl Extents {
 
     /// So many zeros. The first, behind exactly six ones with a zero before them, ends a flag.
     fn zeros(&mut self, count: u64, notice: Option<Notice>) -> u64 {
-        if self.place == Place::Idle {
+        if self.place == Position::Idle {
             self.end_ones();
         }
         let behind = match self.ones == 6 && self.at > 6 {
@@ -256,15 +258,15 @@ impl Extents {
         let first = self.at - 7;
         match (notice, self.place) {
             (Some(notice), _) => self.cut(first, Kind::Body(Heard::plain(notice))),
-            (None, Place::Before | Place::Unframed) => {
+            (None, Position::Before | Position::Unframed) => {
                 let cut = self.may_begin(first);
                 self.cut(first, Kind::Before { cut });
             }
-            (None, Place::Body) if self.zero >= first => self.cut_ones(first),
+            (None, Position::Body) if self.zero >= first => self.cut_ones(first),
             (None, _) => self.cut(first, Kind::Void),
         }
         self.cut(self.at + 1, Kind::Flag);
-        self.place = Place::Body;
+        self.place = Position::Body;
         self.zero = u64::MAX;
         self.zeros = 0;
     }
@@ -272,7 +274,7 @@ impl Extents {
     /// Whether a recording may begin with bit 0 where the first flag begins with this bit: inside a frame, or inside closing ones, of which a block has
     /// some before its end and a flag before them.
     fn may_begin(&self, flag: u64) -> bool {
-        let in_frame = self.place == Place::Before && flag <= LONGEST_PART;
+        let in_frame = self.place == Position::Before && flag <= LONGEST_PART;
         let in_ones = self.zero >= flag && self.block.is_none_or(|bits| flag < bits);
         in_frame || in_ones
     }
@@ -280,8 +282,8 @@ impl Extents {
     /// Seven or more ones end before this bit. Those behind the block's end are no closing ones, and nor is what stands behind them.
     fn end_ones(&mut self) {
         self.place = match self.at <= self.block_end() {
-            true => Place::Behind,
-            false => Place::Void,
+            true => Position::Behind,
+            false => Position::Void,
         };
         self.cut(self.at.min(self.block_end()), Kind::Idle);
     }
@@ -295,12 +297,12 @@ impl Extents {
     /// The last stretches.
     pub fn end(&mut self) {
         match self.place {
-            Place::Idle => {
+            Position::Idle => {
                 self.end_ones();
                 self.cut(self.at, Kind::Void);
             }
-            Place::Body if self.is_closed(self.zero) => self.cut_ones(self.zero.min(self.at)),
-            Place::Behind if self.is_closed(self.from) => {}
+            Position::Body if self.is_closed(self.zero) => self.cut_ones(self.zero.min(self.at)),
+            Position::Behind if self.is_closed(self.from) => {}
             _ => self.cut(self.at, Kind::Void),
         }
     }

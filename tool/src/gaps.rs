@@ -55,7 +55,7 @@ impl Gaps {
     }
 
     /// Something in no frame.
-    pub fn free(&mut self, from: u64, to: u64) {
+    pub fn add(&mut self, from: u64, to: u64) {
         let from = self.open().unwrap_or(from);
         self.open = Some(Gap {
             from,
@@ -83,7 +83,7 @@ impl Gaps {
     /// The end. A flag there borders only what stands before it, if anything does.
     pub fn end(&mut self) {
         if let Edge::Flag { from: 1.., to } = self.edge {
-            self.free(to, to);
+            self.add(to, to);
         }
         self.close();
     }
@@ -126,7 +126,7 @@ mod tests {
         for (at, letter) in (0..).zip(text.chars()) {
             match letter {
                 'b' | 'B' => gaps.before(at, at + 1, letter == 'b'),
-                '-' => gaps.free(at, at + 1),
+                '-' => gaps.add(at, at + 1),
                 'f' => gaps.flag(at, at + 1),
                 _ => gaps.bound(),
             }

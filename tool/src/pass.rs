@@ -10,7 +10,7 @@ use crate::gaps::{Gap, Gaps};
 use crate::listener::{Listened, Listener};
 
 /// Bits of a reading call at most, so that the stretches of one do not take much memory.
-const MOST: u64 = 1 << 15;
+const CALL_BITS: u64 = 1 << 15;
 
 /// The listener, and what is known of the bits that it read.
 pub struct Pass {
@@ -51,7 +51,7 @@ impl Pass {
 
     /// Reads the bits `from..to` of the bytes up to the first notice, or not all of them.
     pub fn read(&mut self, bytes: &[u8], from: u64, to: u64) -> Result<Told, Error> {
-        let told = self.listener.read(bytes, from, to.min(from + MOST))?;
+        let told = self.listener.read(bytes, from, to.min(from + CALL_BITS))?;
         let notice = Some(told.notice).filter(|notice| *notice != Notice::End);
         self.extents.known.clear();
         self.extents.follow(bytes, from, from + told.bits, notice);
@@ -77,12 +77,12 @@ impl Pass {
         for Stretch { from, to, kind } in &mut self.extents.known {
             match kind {
                 Kind::Before { cut } => self.gaps.before(*from, *to, *cut),
-                Kind::Void => self.gaps.free(*from, *to),
+                Kind::Void => self.gaps.add(*from, *to),
                 Kind::Idle => self.gaps.bound(),
                 Kind::Flag => self.gaps.flag(*from, *to),
                 Kind::Body(heard) => {
                     match heard.notice {
-                        Notice::Spoilt => self.gaps.free(*from, *to),
+                        Notice::Spoilt => self.gaps.add(*from, *to),
                         _ => self.gaps.bound(),
                     }
                     let behind = *to + FLAG_BITS;

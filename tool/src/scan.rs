@@ -18,7 +18,7 @@ use crate::json::{line, GapObject, Members, Only};
 use crate::output::{self, folded};
 use crate::progress::Progress;
 pub use listening::Listening;
-use survey::Heard;
+use survey::HeardCircuit;
 pub use survey::Survey;
 
 pub const HELP: &str = "\
@@ -245,7 +245,7 @@ impl<W: Write> Listing<W> {
 }
 
 /// A circuit under the table's columns.
-fn row(heard: &Heard) -> String {
+fn row(heard: &HeardCircuit) -> String {
     let circuit = heard.circuit.to_string();
     format!(
         "{circuit:7} {:10} {:9} {:11} {:9} {:13} {:13}",

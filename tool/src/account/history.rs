@@ -2,7 +2,7 @@
 
 use aes18::{Circuit, Fate, Notice, Open};
 
-use crate::circuits::{self, MOST};
+use crate::circuits::{self, MOST_CIRCUITS};
 use crate::listener::{Listened, Listener};
 
 /// A notice with what the pass before it says of it.
@@ -13,7 +13,7 @@ pub struct Heard {
     pub elsewhere: Option<Circuit>,
     /// How much stands in no frame between the circuit's last packet and this one, where that is enough for the loss, or that it is a copy, to be
     /// known only modulo 8.
-    pub free: Option<u64>,
+    pub doubt: Option<u64>,
     /// Whether the message that was open is dropped by it.
     pub dropped: bool,
 }
@@ -24,7 +24,7 @@ impl Heard {
         Heard {
             notice,
             elsewhere: None,
-            free: None,
+            doubt: None,
             dropped: false,
         }
     }
@@ -44,7 +44,7 @@ pub struct Unfinished {
 pub struct History {
     /// From how much in no frame on a loss is known only modulo 8.
     doubtful: u64,
-    circuits: [Past; MOST],
+    circuits: [Past; MOST_CIRCUITS],
     passed: bool,
 }
 
@@ -63,7 +63,7 @@ impl History {
     pub fn new(doubtful: u64) -> History {
         History {
             doubtful,
-            circuits: [Past::default(); MOST],
+            circuits: [Past::default(); MOST_CIRCUITS],
             passed: false,
         }
     }
@@ -91,7 +91,7 @@ impl History {
         Heard {
             notice,
             elsewhere: None,
-            free: since.filter(|since| *since >= self.doubtful),
+            doubt: since.filter(|since| *since >= self.doubtful),
             dropped,
         }
     }

@@ -2,14 +2,14 @@
 
 use aes18::Figures;
 
-use super::{Account, Packets};
+use super::{Account, CircuitCounts};
 
 /// Columns of the names, and of each circuit's figures.
 const NAME: usize = 12;
 const FIGURE: usize = 17;
 
 /// A circuit's figures with their names.
-pub fn figures(packets: &Packets, figures: Figures) -> [(&'static str, u64); 11] {
+pub fn figures(packets: &CircuitCounts, figures: Figures) -> [(&'static str, u64); 11] {
     [
         ("packets", packets.came),
         ("copies", packets.copies),
@@ -57,7 +57,7 @@ mod tests {
             extension: Some(0xFF),
         };
         let mut account = Account::new(Unit::Bit, &[1, 2, 3, 4].map(circuit));
-        account.circuits[3] = Packets {
+        account.circuits[3] = CircuitCounts {
             circuit: circuit(0xFE),
             came: 999_999_999_999_991,
             copies: 999_999_999_999_992,

@@ -21,14 +21,14 @@ pub fn fate_name(fate: Fate) -> &'static str {
 }
 
 /// A notice in words, such as `02:07, loss 0, Whole, length 10`.
-pub struct Words<'a> {
+pub struct NoticeWords<'a> {
     pub heard: &'a Heard,
     /// The circuits listed.
     pub circuits: &'a [Circuit],
     pub unit: Unit,
 }
 
-impl Display for Words<'_> {
+impl Display for NoticeWords<'_> {
     fn fmt(&self, f: &mut Formatter<'_>) -> fmt::Result {
         match self.heard.notice {
             Notice::End => f.write_str("End"),
@@ -60,10 +60,10 @@ impl Display for Words<'_> {
     }
 }
 
-impl Words<'_> {
+impl NoticeWords<'_> {
     /// What is said of the loss.
     fn doubts(&self, f: &mut Formatter<'_>) -> fmt::Result {
-        if let Some(free) = self.heard.free {
+        if let Some(free) = self.heard.doubt {
             let free = count(free, self.unit.name());
             write!(f, " modulo 8 ({free} in no frame)")?;
         }

@@ -5,8 +5,10 @@ use std::io;
 use aes18::{Circuit, Figures, Notice};
 use serde::ser::{Serialize, SerializeMap, Serializer};
 
-use super::format::{Format, Sum, Told};
-use crate::account::{fate_name, figures, untraced, Account, Heard, Packets, Unfinished, Unit};
+use super::form::{Form, Sum, Told};
+use crate::account::{
+    fate_name, figures, untraced, Account, CircuitCounts, Heard, Unfinished, Unit,
+};
 use crate::gaps::Gap;
 use crate::json::{line, with_unit, GapObject, Only};
 use crate::quote::{as_text, Hex};
@@ -15,7 +17,7 @@ use crate::scan::Listening;
 /// An object for each notice and each stretch in no frame, then one with the counts.
 pub struct Json;
 
-impl Format for Json {
+impl Form for Json {
     fn listening(&self, out: &mut Vec<u8>, listening: &Listening) -> io::Result<()> {
         line(out, &Only("listening", listening))
     }
@@ -97,7 +99,7 @@ fn circuit<M: SerializeMap>(
 
 /// What is said of a loss.
 fn doubts<M: SerializeMap>(members: &mut M, unit: Unit, heard: &Heard) -> Result<(), M::Error> {
-    if let Some(free) = heard.free {
+    if let Some(free) = heard.doubt {
         members.serialize_entry("modulo8", &true)?;
         members.serialize_entry(&with_unit("gap_", unit), &free)?;
     }
@@ -148,7 +150,7 @@ impl Serialize for SumObject<'_> {
 /// A circuit's counts.
 struct CircuitObject<'a> {
     number: usize,
-    packets: &'a Packets,
+    packets: &'a CircuitCounts,
     figures: Figures,
 }
 

@@ -2,7 +2,7 @@
 
 use aes18::{LineRead, LineReader, LONGEST_LINE_FRAME};
 
-use super::format::Rest;
+use super::form::Rest;
 use crate::frames::FLAG;
 use crate::gaps::{Gap, Gaps};
 
@@ -42,7 +42,7 @@ impl Line {
             self.gaps.bound();
         } else if self.from < at {
             match self.inside {
-                true => self.gaps.free(self.from, at),
+                true => self.gaps.add(self.from, at),
                 false => self.gaps.before(self.from, at, at <= LONGEST_PART),
             }
             self.dropped += u64::from(self.inside);
@@ -55,7 +55,7 @@ impl Line {
     /// Ends the reading, when all bytes are read.
     pub fn end(&mut self) {
         if self.from < self.at {
-            self.gaps.free(self.from, self.at);
+            self.gaps.add(self.from, self.at);
         }
         self.gaps.end();
     }

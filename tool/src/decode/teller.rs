@@ -5,7 +5,7 @@ use std::io::{self, Write};
 use aes18::{Circuit, Notice};
 
 use super::folder::Folder;
-use super::format::{Format, Rest, Sum, Told};
+use super::form::{Form, Rest, Sum, Told};
 use crate::account::{Account, Heard, Unfinished, Unit};
 use crate::error::Error;
 use crate::gaps::Gap;
@@ -24,7 +24,7 @@ pub struct Teller {
     /// Whether the length of a block is known.
     block: bool,
     folder: Option<Folder>,
-    format: &'static dyn Format,
+    form: &'static dyn Form,
     /// What is told and not yet written.
     told: Vec<u8>,
     stdout: Box<dyn Write>,
@@ -38,7 +38,7 @@ impl Teller {
         block: bool,
         folder: Option<Folder>,
         strict: bool,
-        format: &'static dyn Format,
+        form: &'static dyn Form,
     ) -> Teller {
         Teller {
             account: Account::new(unit, &circuits),
@@ -47,14 +47,14 @@ impl Teller {
             block,
             stdout: output::stdout(true, strict || folder.is_some()),
             folder,
-            format,
+            form,
             told: Vec::new(),
         }
     }
 
     /// Tells which circuits are listened to.
     pub fn listening(&mut self, listening: &Listening) -> Result<(), Error> {
-        written(self.format.listening(&mut self.told, listening))
+        written(self.form.listening(&mut self.told, listening))
     }
 
     /// Counts a notice, files its message and tells it.
@@ -76,7 +76,7 @@ impl Teller {
             bytes: message.or_else(|| notice.information(store)),
             file: file.as_deref(),
         };
-        written(self.format.notice(&mut self.told, &told))?;
+        written(self.form.notice(&mut self.told, &told))?;
         match self.told.len() < KEPT {
             true => Ok(()),
             false => self.send(),
@@ -87,7 +87,7 @@ impl Teller {
     pub fn tell_gaps(&mut self, gaps: &[Gap]) -> Result<(), Error> {
         gaps.iter().try_for_each(|gap| {
             self.account.gap(gap);
-            written(self.format.gap(&mut self.told, self.account.unit, gap))
+            written(self.form.gap(&mut self.told, self.account.unit, gap))
         })
     }
 
@@ -111,7 +111,7 @@ impl Teller {
             rest,
             block: self.block,
         };
-        written(self.format.sum(&mut self.told, &sum))?;
+        written(self.form.sum(&mut self.told, &sum))?;
         self.send()?;
         Ok(self.account.faults())
     }

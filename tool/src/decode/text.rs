@@ -2,9 +2,9 @@
 
 use std::io::{self, Write};
 
-use super::format::{Format, Sum, Told};
+use super::form::{Form, Sum, Told};
 use crate::account::{
-    free_words, gap_words, modulo_words, table, unfinished_words, untraced_words, Unit, Words,
+    free_words, gap_words, modulo_words, table, unfinished_words, untraced_words, NoticeWords, Unit,
 };
 use crate::gaps::Gap;
 use crate::output::{folded, say};
@@ -14,7 +14,7 @@ use crate::scan::Listening;
 /// A line for each notice and each stretch in no frame, then a table.
 pub struct Text;
 
-impl Format for Text {
+impl Form for Text {
     /// It goes to the standard error: the standard output has notices, and their totals.
     fn listening(&self, _: &mut Vec<u8>, listening: &Listening) -> io::Result<()> {
         say(&folded(&listening.to_string()));
@@ -22,7 +22,7 @@ impl Format for Text {
     }
 
     fn notice(&self, out: &mut Vec<u8>, told: &Told<'_>) -> io::Result<()> {
-        let words = Words {
+        let words = NoticeWords {
             heard: told.heard,
             circuits: told.circuits,
             unit: told.unit,

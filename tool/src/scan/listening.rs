@@ -9,7 +9,7 @@ use serde::ser::{Serialize, SerializeMap, Serializer};
 use serde_json::json;
 
 use super::survey::Survey;
-use crate::circuits::MOST;
+use crate::circuits::MOST_CIRCUITS;
 use crate::error::Error;
 use crate::formats::Formats;
 use crate::frames;
@@ -138,7 +138,7 @@ fn survey(
         .iter()
         .map(|heard| (heard.circuit, heard.packets))
         .collect();
-    let not_to = to.split_off(to.len().min(MOST));
+    let not_to = to.split_off(to.len().min(MOST_CIRCUITS));
     Ok(Listening { to, not_to })
 }
 

@@ -20,12 +20,12 @@ pub struct Survey {
     /// Bits read.
     pub bits: u64,
     /// The circuits, by who was heard first, and where each is among them.
-    heard: Vec<Heard>,
+    heard: Vec<HeardCircuit>,
     places: HashMap<Circuit, usize>,
 }
 
 /// A circuit of which packets passed.
-pub struct Heard {
+pub struct HeardCircuit {
     pub circuit: Circuit,
     /// Packets, copies not counted.
     pub packets: u64,
@@ -110,7 +110,7 @@ impl Survey {
             }
             None => {
                 self.places.insert(circuit, self.heard.len());
-                self.heard.push(Heard {
+                self.heard.push(HeardCircuit {
                     circuit,
                     packets: 1,
                     copies: 0,
@@ -138,14 +138,14 @@ impl Survey {
     }
 
     /// The circuits, those with most packets first, of those with as many those heard first.
-    pub fn ranked(&self) -> Vec<&Heard> {
-        let mut ranked: Vec<&Heard> = self.heard.iter().collect();
+    pub fn ranked(&self) -> Vec<&HeardCircuit> {
+        let mut ranked: Vec<&HeardCircuit> = self.heard.iter().collect();
         ranked.sort_by_key(|heard| Reverse(heard.packets));
         ranked
     }
 }
 
-impl Heard {
+impl HeardCircuit {
     /// Notes a further packet, whose frame ends before the bit `to`, behind so much in no frame in all; answers whether what was lost before it is
     /// known only modulo 8.
     fn again(&mut self, packet: Packet, to: u64, free: u64) -> bool {

@@ -8,7 +8,7 @@ use aes18::Circuit;
 
 use super::layout::Layout;
 use super::paint::Paint;
-use super::words::Words;
+use super::words::PictureWords;
 use crate::args::{self, Arg, Args, BLOCK};
 use crate::circuits;
 use crate::error::Error;
@@ -61,8 +61,8 @@ struct Given {
 
 impl Options {
     /// What the words of the picture refer to.
-    pub fn words(&self) -> Words<'_> {
-        Words {
+    pub fn words(&self) -> PictureWords<'_> {
+        PictureWords {
             circuits: &self.circuits,
             layout: &self.layout,
         }

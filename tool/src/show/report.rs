@@ -6,7 +6,7 @@ use super::ink::Ink;
 use super::options::Options;
 use super::paint::Paint;
 use super::tally::Tally;
-use super::words::Words;
+use super::words::PictureWords;
 use crate::account::{gap_words, table, unfinished_words, untraced_words, Unit};
 use crate::output::item;
 
@@ -26,7 +26,7 @@ pub fn write(out: &mut impl Write, options: &Options, tally: &Tally) -> io::Resu
 }
 
 /// The listed circuits.
-fn circuits(out: &mut impl Write, paint: Paint, words: Words<'_>) -> io::Result<()> {
+fn circuits(out: &mut impl Write, paint: Paint, words: PictureWords<'_>) -> io::Result<()> {
     for number in 0..words.circuits.len() {
         let ink = Ink::Circuit { number, used: true };
         writeln!(out, "{}  {}", symbol(paint, ink), words.circuit(number))?;
@@ -68,7 +68,7 @@ fn marks(out: &mut impl Write, paint: Paint) -> io::Result<()> {
 }
 
 /// The places that went wrong; behind the others the messages that are open at the end, all of them.
-fn places(out: &mut impl Write, words: Words<'_>, tally: &Tally) -> io::Result<()> {
+fn places(out: &mut impl Write, words: PictureWords<'_>, tally: &Tally) -> io::Result<()> {
     let open = &tally.account.unfinished;
     match tally.wrong + open.len() {
         0 => return writeln!(out, "\nNo place went wrong."),

@@ -8,7 +8,7 @@ use std::io::{self, Write};
 use super::ink::Ink;
 use super::layout::Part;
 use super::tally::Tally;
-use super::words::{lost, Words};
+use super::words::{lost, PictureWords};
 use crate::extents::{Kind, Stretch};
 use sheet::{EDGE, LEFT, ROW, TOP};
 
@@ -39,7 +39,7 @@ const PATTERNS: &str = r#"<defs>
 /// The picture being written.
 pub struct Svg<'a, W> {
     pub out: W,
-    words: Words<'a>,
+    words: PictureWords<'a>,
     /// The length of a bit.
     scale: f64,
     /// The first row's number.
@@ -52,7 +52,7 @@ pub struct Svg<'a, W> {
 
 impl<'a, W: Write> Svg<'a, W> {
     /// Begins a picture of the file of that name.
-    pub fn new(mut out: W, name: &str, words: Words<'a>) -> io::Result<Svg<'a, W>> {
+    pub fn new(mut out: W, name: &str, words: PictureWords<'a>) -> io::Result<Svg<'a, W>> {
         let (name, style) = (escaped(name), include_str!("svg.css"));
         writeln!(out, "{:START$}\n<title>{name}</title>", "")?;
         write!(out, "<style>\n{style}</style>\n{PATTERNS}")?;

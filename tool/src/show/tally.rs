@@ -102,7 +102,7 @@ fn went_wrong(heard: &Heard) -> bool {
     match heard.notice {
         Notice::Circuit { loss, fate, .. } => {
             loss > 0
-                || heard.free.is_some()
+                || heard.doubt.is_some()
                 || heard.dropped
                 || matches!(fate, Fate::Orphan | Fate::Wrong)
         }

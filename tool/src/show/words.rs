@@ -9,12 +9,12 @@ use crate::extents::{Kind, Stretch};
 
 /// The circuits by number, and the layout, which words refer to.
 #[derive(Clone, Copy)]
-pub struct Words<'a> {
+pub struct PictureWords<'a> {
     pub circuits: &'a [Circuit],
     pub layout: &'a Layout,
 }
 
-impl Words<'_> {
+impl PictureWords<'_> {
     /// A place that went wrong.
     pub fn place(&self, place: &Place) -> String {
         match place {
@@ -33,7 +33,7 @@ impl Words<'_> {
             Kind::Void => format!("{block}{bits}: in no frame"),
             Kind::Flag => format!("{block}{bits}: flag"),
             Kind::Body(heard) => {
-                let words = account::Words {
+                let words = account::NoticeWords {
                     heard,
                     circuits: self.circuits,
                     unit: Unit::Bit,

@@ -6,9 +6,9 @@ use aes18::Figures;
 
 use super::super::ink::Ink;
 use super::super::tally::Tally;
-use super::super::words::Words;
+use super::super::words::PictureWords;
 use super::sheet::{EDGE, LEFT, ROW, TOP};
-use crate::account::{figures, Packets};
+use crate::account::{figures, CircuitCounts};
 
 /// Where the legend's columns are.
 const COLUMNS: [f64; 3] = [EDGE, EDGE + 750.0, EDGE + 1020.0];
@@ -17,7 +17,7 @@ const LEGEND: usize = 66;
 const LINE: usize = 20;
 
 /// Writes the line below the title, legend and scale.
-pub fn write(out: &mut impl Write, words: Words<'_>, tally: &Tally) -> io::Result<()> {
+pub fn write(out: &mut impl Write, words: PictureWords<'_>, tally: &Tally) -> io::Result<()> {
     extent(out, words, tally)?;
     for (x, column) in COLUMNS.into_iter().zip(columns(words, tally)) {
         for (line, (ink, text)) in column.iter().enumerate() {
@@ -28,7 +28,7 @@ pub fn write(out: &mut impl Write, words: Words<'_>, tally: &Tally) -> io::Resul
 }
 
 /// Which bits are shown, in which rows.
-fn extent(out: &mut impl Write, words: Words<'_>, tally: &Tally) -> io::Result<()> {
+fn extent(out: &mut impl Write, words: PictureWords<'_>, tally: &Tally) -> io::Result<()> {
     let layout = words.layout;
     let (from, to) = (layout.from, tally.end.min(layout.to));
     let unit = match layout.blocks {
@@ -47,7 +47,7 @@ fn extent(out: &mut impl Write, words: Words<'_>, tally: &Tally) -> io::Result<(
 }
 
 /// The legend's columns: the circuits, the other bodies, the rest.
-fn columns(words: Words<'_>, tally: &Tally) -> [Vec<(Ink, String)>; 3] {
+fn columns(words: PictureWords<'_>, tally: &Tally) -> [Vec<(Ink, String)>; 3] {
     let account = &tally.account;
     let circuits = (0..words.circuits.len()).zip(account.circuits());
     let circuits = circuits.map(|(number, (packets, figures))| {
@@ -85,7 +85,7 @@ fn columns(words: Words<'_>, tally: &Tally) -> [Vec<(Ink, String)>; 3] {
 }
 
 /// A circuit's figures, as far as they are not 0.
-fn told(packets: &Packets, totals: Figures) -> String {
+fn told(packets: &CircuitCounts, totals: Figures) -> String {
     let figures = figures(packets, totals).into_iter();
     let named = figures.filter(|(name, figure)| *name == "packets" || *figure > 0);
     let words = named.map(|(name, figure)| format!("{name} {figure}"));
@@ -121,7 +121,7 @@ fn entry(out: &mut impl Write, x: f64, y: usize, ink: Ink, text: &str) -> io::Re
 }
 
 /// The numbers of a row's bits, counted from its start, above the first row.
-fn scale(out: &mut impl Write, words: Words<'_>) -> io::Result<()> {
+fn scale(out: &mut impl Write, words: PictureWords<'_>) -> io::Result<()> {
     let row = words.layout.row;
     let steps = [25, 50, 100, 250, 500, 1000];
     let step = steps.into_iter().find(|step| row / step <= 12);

@@ -53,7 +53,7 @@ impl Sum<'_> {
 }
 
 /// A form of telling.
-pub trait Format {
+pub trait Form {
     /// Tells which circuits are listened to, before all else.
     fn listening(&self, out: &mut Vec<u8>, listening: &Listening) -> io::Result<()>;
 
