@@ -118,63 +118,67 @@ impl Extents {
     pub fn follow(&mut self, bytes: &[u8], from: u64, to: u64, notice: Option<Notice>) {
         let mut bit = from;
         while bit < to {
-            let plain = self.plain(bytes, bit, to);
-            if plain > 0 {
-                bit += plain;
-                continue;
-            }
-            let byte = bytes[(bit / 8) as usize] >> (bit % 8);
-            let most = (8 - bit % 8).min(to - bit);
-            bit += match byte & 1 == 1 {
-                true => self.ones(most.min(byte.trailing_ones().into())),
+            let (bits, most) = window(bytes, bit, to);
+            let at_once = match most >= FLAG_BITS as u32 && bits.to_le_bytes()[0] == FLAG {
+                true => self.take_flag(bits, most, notice.filter(|_| bit + FLAG_BITS == to)),
+                false => self.take_plain(bits, most),
+            };
+            bit += match bits & 1 == 1 {
+                _ if at_once > 0 => at_once,
+                true => self.ones(most.min(bits.trailing_ones()).into()),
                 false => {
-                    let zeros = most.min(byte.trailing_zeros().into());
+                    let zeros = most.min(bits.trailing_zeros()).into();
                     self.zeros(zeros, notice.filter(|_| bit + 1 == to))
                 }
             };
         }
     }
 
-    /// Follows the next eight bytes or the next byte at once, where these are whole ones and nothing but flags ends in them; answers how many bits that
-    /// was.
-    fn plain(&mut self, bytes: &[u8], bit: u64, to: u64) -> u64 {
-        if bit % 8 != 0 {
-            return 0;
+    /// Follows at once what stands before six ones in a row among so many bits, or flags behind each other; answers how many bits that was.
+    fn take_plain(&mut self, bits: u64, most: u32) -> u64 {
+        let flags = if most == 64 { self.take_flags(bits) } else { 0 };
+        if flags > 0 {
+            return flags;
         }
-        let here = &bytes[(bit / 8) as usize..(to / 8) as usize];
-        if let Some(eight) = here.first_chunk::<8>() {
-            let bits = u64::from_le_bytes(*eight);
-            if self.take(bits, 64) {
-                return 64;
-            }
-            let flags = self.take_flags(bits);
-            if flags > 0 {
-                return flags;
-            }
-        }
-        match here.first() {
-            Some(byte) if self.take(u64::from(*byte), 8) => 8,
-            _ => 0,
+        let two = bits & bits >> 1;
+        let six = two & two >> 2 & two >> 4;
+        let count = most.min(six.trailing_zeros());
+        match count > 0 && self.take(bits & u64::MAX >> (64 - count), count) {
+            true => count.into(),
+            false => 0,
         }
     }
 
-    /// Follows so many bits, the first in the lowest, unless they end a flag, void a body or end seven or more ones.
-    fn take(&mut self, bits: u64, count: u32) -> bool {
-        let first = bits.trailing_ones().min(count);
-        let two = bits & bits >> 1;
-        let six = two & two >> 2 & two >> 4;
-        match first == count {
-            true if self.ones >= 7 => self.ones += u64::from(count),
-            false if six == 0 && self.ones + u64::from(first) < 6 => {
-                self.zero = self.zero.min(self.at + u64::from(first));
-                self.ones = u64::from((bits << (64 - count)).leading_ones());
-            }
-            _ => return false,
+    /// Follows at once the flag, or flags, with which so many bits begin, unless its first bit ends a flag too; answers how many bits that was.
+    fn take_flag(&mut self, bits: u64, most: u32, notice: Option<Notice>) -> u64 {
+        let flags = if most == 64 { self.take_flags(bits) } else { 0 };
+        if flags > 0 || self.ones == 6 {
+            return flags;
         }
-        let zeros = (bits << (64 - count)).leading_zeros();
+        if self.place == Position::Idle {
+            self.end_ones();
+        }
+        self.zero = self.zero.min(self.at);
+        self.at += FLAG_BITS - 1;
+        self.flag(notice);
+        self.at += 1;
+        self.ones = 0;
+        FLAG_BITS
+    }
+
+    /// Follows so many bits, the first in the lowest, among which no six ones stand in a row, unless together with those before they end a flag, void a
+    /// body or end seven or more ones.
+    fn take(&mut self, bits: u64, count: u32) -> bool {
+        let first = bits.trailing_ones();
+        if first == count || self.ones + u64::from(first) >= 6 {
+            return false;
+        }
+        let last = bits << (64 - count);
+        self.zero = self.zero.min(self.at + u64::from(first));
+        self.ones = last.leading_ones().into();
         self.zeros = match bits {
             0 => self.zeros + u64::from(count),
-            _ => u64::from(zeros),
+            _ => last.leading_zeros().into(),
         };
         self.at += u64::from(count);
         true
@@ -329,6 +333,21 @@ impl Extents {
             self.from = to;
         }
     }
+}
+
+/// The next bits of the bytes before the bit `to`, the first in the lowest, the others 0, and how many they are.
+fn window(bytes: &[u8], bit: u64, to: u64) -> (u64, u32) {
+    let here = &bytes[(bit / 8) as usize..];
+    let begun = (bit % 8) as u32;
+    let (bits, most) = match here.first_chunk::<9>() {
+        Some([eight @ .., ninth]) => {
+            let nine = u128::from(*ninth) << 64 | u128::from(u64::from_le_bytes(*eight));
+            ((nine >> begun) as u64, 64)
+        }
+        None => (u64::from(here[0]) >> begun, 8 - begun),
+    };
+    let most = most.min((to - bit).min(64) as u32);
+    (bits & u64::MAX >> (64 - most), most)
 }
 
 /// Flags that share zeros, from that bit of the first on, its shared zero not counted.

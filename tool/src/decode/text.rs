@@ -1,6 +1,7 @@
 //! Lines for people.
 
-use std::io::{self, Write};
+use std::fmt::{self, Write as _};
+use std::io::{self, Write as _};
 
 use super::form::{Form, Sum, Told};
 use crate::account::{
@@ -14,6 +15,33 @@ use crate::scan::Listening;
 /// A line for each notice and each stretch in no frame, then a table.
 pub struct Text;
 
+/// A line of text, which bytes end with; it is written many times, and quicker so than through the errors of an output.
+struct Line<'a>(&'a mut Vec<u8>);
+
+impl fmt::Write for Line<'_> {
+    fn write_str(&mut self, text: &str) -> fmt::Result {
+        self.0.extend_from_slice(text.as_bytes());
+        Ok(())
+    }
+}
+
+/// Writes a notice's line.
+fn write_notice(line: &mut Line<'_>, told: &Told<'_>) -> fmt::Result {
+    let words = NoticeWords {
+        heard: told.heard,
+        circuits: told.circuits,
+        unit: told.unit,
+    };
+    write!(line, "{} {}: {words}", told.unit.name(), told.place)?;
+    if let Some(bytes) = told.bytes {
+        write!(line, ": {}", Quoted(bytes))?;
+    }
+    if let Some(file) = told.file {
+        write!(line, ", file {file}")?;
+    }
+    writeln!(line)
+}
+
 impl Form for Text {
     /// It goes to the standard error: the standard output has notices, and their totals.
     fn listening(&self, _: &mut Vec<u8>, listening: &Listening) -> io::Result<()> {
@@ -22,19 +50,7 @@ impl Form for Text {
     }
 
     fn notice(&self, out: &mut Vec<u8>, told: &Told<'_>) -> io::Result<()> {
-        let words = NoticeWords {
-            heard: told.heard,
-            circuits: told.circuits,
-            unit: told.unit,
-        };
-        write!(out, "{} {}: {words}", told.unit.name(), told.place)?;
-        if let Some(bytes) = told.bytes {
-            write!(out, ": {}", Quoted(bytes))?;
-        }
-        if let Some(file) = told.file {
-            write!(out, ", file {file}")?;
-        }
-        writeln!(out)
+        write_notice(&mut Line(out), told).map_err(io::Error::other)
     }
 
     fn gap(&self, out: &mut Vec<u8>, unit: Unit, gap: &Gap) -> io::Result<()> {
