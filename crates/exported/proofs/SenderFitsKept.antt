@@ -22,9 +22,9 @@ use Rattle.offering.proofs.Offers.{offerRefusal-zero}
 use Rattle.picking.specs.Picking.{pick, advanced, served}
 use Rattle.picking.proofs.PickingLaws.{pick-waits, pick-lt, slotInRange-advanced, served-in-range}
 use Rattle.writing.specs.NextFrame.{nextFrame}
-use Rattle.sender.specs.Blocks.{Filled, System, systemPackets, enableBits, full, andThen, fill, waiting, fillUp, blockFilled, blockRefusal, senderAfterBlock}
+use Rattle.sender.specs.Blocks.{Filled, System, systemPackets, enableBits, ruled, full, andThen, fill, waiting, fillUp, blockFilled, blockRefusal, senderAfterBlock}
 use Rattle.sender.proofs.Filling.{placing-cases}
-use Rattle.sender.proofs.BlockRefusals.{accepted}
+use Rattle.sender.proofs.InForce.{inForce-fits, ruled-in-range}
 use Rattle.sender_layout.specs.Fits.{SenderSlotFits, SenderFits}
 use Rattle.exported.proofs.Fitting.{Four-set, listing-fits}
 
@@ -50,6 +50,7 @@ fits-fresh list are =
                 });
           };
       last = omega arith;
+      enable = omega arith;
     }
 
 -- ---- a slot in range
@@ -91,6 +92,7 @@ fits-offered s store c p r message fits = go (eqb (offerRefusal s store c p r me
               }))
               (fits .slots);
           last = fits .last;
+          enable = fits .enable;
         }
     go false e = fits
 
@@ -105,6 +107,7 @@ fits-served s enable c range p fits =
       circuits = fits .circuits;
       slots = Four-set SenderSlotFits (s .slots) c (advanced (slotAt s c)) (slot-fits (advanced (slotAt s c)) t) (fits .slots);
       last = omega (arith, pick-lt s enable c range p);
+      enable = fits .enable;
     }
 
 fits-filled : (n : ℕ) (s : Sender) (store : List ℕ) (at enable u : ℕ) → inRange s ≡ true → SenderFits s → SenderFits (fill n s store at enable u .sender)
@@ -118,9 +121,15 @@ fits-filled (suc n) s store at enable u range fits =
     (fits-served s enable c range p fits))
 
 pub fits-made : (s : Sender) (store block : List ℕ) (n u : ℕ) (y : System) → SenderFits s → SenderFits (senderAfterBlock s store block n u y)
-unfolding senderAfterBlock blockFilled fillUp
+unfolding senderAfterBlock blockFilled fillUp ruled
 fits-made s store block n u y fits = go (eqb (blockRefusal s store block n u y) 0) refl
   where
-    go : (t : Bool) → eqb (blockRefusal s store block n u y) 0 ≡ t → SenderFits (cond t (blockFilled s store u (systemPackets y) (enableBits y) .sender) s)
-    go true e = fits-filled (waiting s) s store _ _ u (accepted s store block n u y (eqb-true _ 0 e) .record-in-range) fits
+    now : Sender
+    now = ruled s (enableBits y)
+
+    go : (t : Bool) → eqb (blockRefusal s store block n u y) 0 ≡ t → SenderFits (cond t (blockFilled now store u (systemPackets y) .sender) s)
+    go true e =
+        let z : blockRefusal s store block n u y ≡ 0 = eqb-true _ 0 e in
+        fits-filled (waiting now) now store _ _ u (ruled-in-range s store block n u y z)
+        (record { circuits = fits .circuits; slots = fits .slots; last = fits .last; enable = omega (arith, inForce-fits s store block n u y z) })
     go false e = fits

@@ -7,9 +7,13 @@ use native.Mathlib.Omega.{arith}
 use lib.ListN.{length}
 use lib.Dec.{leb, eqb}
 use Rattle.bits.specs.Bits.{Bytes}
+use Rattle.offering.specs.declared.Sender.{Sender}
 use Rattle.sender.specs.Blocks.{System, bufferAfterBlock}
 use Rattle.sender.specs.BlockCalls.{framesPlaced, bitsUsed}
 use Rattle.queues.specs.Calls.{Call, offer, block, End, freshEnd, accepted, afterCall, afterCalls}
+use Rattle.queues.specs.EnableBits.{enableAfter, EnableInForce}
+use Rattle.queues.proofs.EnableInForce.{enable-in-force}
+use Rattle.layout.specs.Layout.{byteAt}
 use Rattle.sender_layout.specs.SenderBytes.{senderLength, senderIn}
 use Rattle.sender_layout.specs.Answers.{blockAnswerLength, placedTold, usedTold}
 use Rattle.aes18.specs.Room.{noRoom}
@@ -125,6 +129,13 @@ module _ (bytes : List ℕ) (room : senderLength ≤ length bytes) where
       → CarriedEnd bytes (afterLentCalls (record { bytes = listRecord bytes list; store = store }) cs) (afterCalls (freshEnd list store) (callsOf cs))
   calls-carried are list listed store cs =
       rest-carried cs _ (freshEnd list store) (record { sender = list-carries bytes are room list listed; store = refl })
+
+  -- and byte 46 of the record is the enable bits in force
+  pub enable-byte : Bytes bytes → (list : List ℕ) → Bytes list → (store : List ℕ) (cs : List LentCall)
+      → byteAt (afterLentCalls (record { bytes = listRecord bytes list; store = store }) cs .bytes) 46 ≡ enableAfter list store (callsOf cs)
+  unfolding EnableInForce senderIn
+  enable-byte are list listed store cs =
+      ap (λ (s : Sender). s .enable) (calls-carried are list listed store cs .sender .sender) ∙ enable-in-force list store (callsOf cs)
 
 -- ---- a record shorter than it has to be
 

@@ -20,7 +20,7 @@ use Rattle.packet.proofs.Choices.{cond-either}
 use Rattle.packet.proofs.CircuitLists.{circuitsRefusal-zero, listed-listing, listing-refusal}
 use Rattle.packet.proofs.Lists.{AllAre-append, AllAre-replicate}
 use Rattle.sender.specs.Blocks.{systemPackets, blockRefusal}
-use Rattle.queues.specs.Queues.{Copy, Queue, Queues, freshQueue, freshQueues, queueAt, copyOf, copiesFrom, messageCopies, messageFor, offered, offerQueues, pickQueue, behindFirst, behind, serveQueues, Placed, Taken, takenNone, andTaken, takeUpTo, copiesInQueues, takeFrames}
+use Rattle.queues.specs.Queues.{Copy, Queue, Queues, freshQueue, freshQueues, queueAt, copyOf, copiesFrom, messageCopies, messageFor, offered, offerQueues, pickQueue, behindFirst, behind, serveQueues, ruledQueues, Placed, Taken, takenNone, andTaken, takeUpTo, copiesInQueues, takeFrames}
 use Rattle.queues.specs.Effects.{Effect, noEffect, sendsMessage, takesFrames, takenFor, TakenBlock, bitsOfBlock, queuesAfterEffect, takenBy, blocksTaken}
 use Rattle.queues.specs.Calls.{Call, offer, block, End, accepted, afterCall, effect, effects}
 use Rattle.sender.proofs.BlockRefusals.{accepted as block-accepted}
@@ -172,12 +172,12 @@ record MadeBlock (b : TakenBlock) : Type 0 where
 
 -- an effect leaves right queues and makes such blocks
 made-effect : (x : Effect) (q : Queues) → RightEffect q x → EffectLent x → RightQueues q → RightQueues (queuesAfterEffect q x) × AllAre MadeBlock (takenBy q x)
-unfolding RightEffect EffectLent queuesAfterEffect takenBy takenFor AllAre MadeTaken
+unfolding RightEffect EffectLent queuesAfterEffect takenBy takenFor AllAre MadeTaken RightQueues queueAt ruledQueues
 made-effect noEffect q right lent queues = (queues, tt)
 made-effect (sendsMessage c priority repetition message) q right lent queues =
     (right-offer priority message (right .1) (right .2) lent q c repetition queues, tt)
 made-effect (takesFrames t) q right lent queues =
-    let taken = made-takeFrames q _ (t .enable) (t .usable) queues in
+    let taken = made-takeFrames (ruledQueues q (t .enable)) _ _ (t .usable) queues in
     (taken .0, (record { before = lent; frames = taken .1 }, tt))
 
 made-effects : (xs : List Effect) (q : Queues) → AllRight q xs → AllAre EffectLent xs → RightQueues q → AllAre MadeBlock (blocksTaken q xs)

@@ -28,8 +28,8 @@ use Rattle.offering.specs.Offering.{offerRefusal, offeredSender, offeredStore, 
 use Rattle.picking.specs.Picking.{enabled, goingRound, orElse, firstWaiting, waitsAt, pickFrom, pick, advanced, served, copiesWaiting}
 use Rattle.writing.specs.PacketParts.{packetAt}
 use Rattle.writing.specs.NextFrame.{nextPacket, nextFrame}
-use Rattle.sender.specs.Blocks.{framesBits, flaggedFrames, blockOf, full, andThen, placing, fill, copiesIn, waiting, fillUp, System, systemPackets, enableBits, blockFilled, wrongSize, shortBuffer, wrongSystem, blockRefusal, senderAfterBlock}
-use Rattle.queues.specs.Queues.{freshQueue, freshQueues, queueAt, copyOf, copiesFrom, messageCopies, messageFor, offered, offerQueues, frontHas, firstQueue, pickQueueFrom, pickQueue, behindFirst, behind, serveQueues, Message, takenNone, andTaken, takingFirst, taking, takeUpTo, copiesInQueues, takeFrames}
+use Rattle.sender.specs.Blocks.{framesBits, flaggedFrames, blockOf, full, andThen, placing, fill, copiesIn, waiting, fillUp, System, systemPackets, enableBits, inForce, ruled, blockFilled, wrongSize, shortBuffer, wrongSystem, blockRefusal, senderAfterBlock}
+use Rattle.queues.specs.Queues.{freshQueue, freshQueues, queueAt, copyOf, copiesFrom, messageCopies, messageFor, offered, offerQueues, frontHas, firstQueue, pickQueueFrom, pickQueue, behindFirst, behind, serveQueues, ruledQueues, Message, takenNone, andTaken, takingFirst, taking, takeUpTo, copiesInQueues, takeFrames}
 use Rattle.queues.specs.Effects.{takenFor, packetsTaken, bitsOfBlock, queuesAfterEffect, sentBy, takenBy, messagesSent, blocksTaken}
 use Rattle.queues.specs.Calls.{Call, offer, block, freshEnd, accepted, afterCall, effect, effectOf, effects, blocksMade}
 use Rattle.queues.specs.Sent.{messagesAt, placedAt, framesOf}
@@ -166,9 +166,9 @@ unfolding list nothingWanted bitsSent torn readsOf twoCircuits tornCalls tornBit
     sendStoreLength freshSendSlot freshSender sendSlotAt pending sendSlotInRange sendSlotsInRange sendInRange
     offerRefusal offeredSender offeredStore senderAfterOffer storeAfterOffer enabled goingRound orElse
     waitsAt firstWaiting pickFrom pick messageAt packetAt nextPacket advanced served copiesWaiting full andThen nextFrame placing fill copiesIn waiting fillUp
-    framesBits flaggedFrames blockOf systemPackets enableBits blockFilled wrongSize shortBuffer wrongSystem blockRefusal senderAfterBlock
+    framesBits flaggedFrames blockOf systemPackets enableBits inForce ruled blockFilled wrongSize shortBuffer wrongSystem blockRefusal senderAfterBlock
     freshQueue freshQueues queueAt copyOf copiesFrom messageCopies messageFor offered offerQueues
-    frontHas firstQueue pickQueueFrom pickQueue behindFirst behind serveQueues
+    frontHas firstQueue pickQueueFrom pickQueue behindFirst behind serveQueues ruledQueues
     takenNone andTaken takingFirst taking takeUpTo copiesInQueues takeFrames
     takenFor packetsTaken bitsOfBlock queuesAfterEffect sentBy takenBy messagesSent blocksTaken
     accepted afterCall effect effectOf effects blocksMade messagesAt placedAt framesOf

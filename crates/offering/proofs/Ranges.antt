@@ -67,21 +67,31 @@ pub record SenderFacts (s : Sender) : Type 0 where
   pub count : s .circuits .count ≤ 4
   pub circuits : circuitsRefusal (listed (s .circuits)) ≡ 0
   pub last : s .last ≤ 3
+  pub enable : s .enable ≤ 15
   pub slots : slotsInRange (take (s .circuits .count) (s .slots)) ≡ true
 
 pub inRange-facts : (s : Sender) → inRange s ≡ true → SenderFacts s
 unfolding inRange
 inRange-facts s e =
-    let (e₃, slots) = and-elim _ _ e in
+    let (e₄, slots) = and-elim _ _ e in
+    let (e₃, enable) = and-elim _ _ e₄ in
     let (e₂, last) = and-elim _ _ e₃ in
     let (count, circuits) = and-elim _ _ e₂ in
-    record { count = leb-true _ _ count; circuits = eqb-true _ _ circuits; last = leb-true _ _ last; slots = slots }
+    record {
+      count = leb-true _ _ count;
+      circuits = eqb-true _ _ circuits;
+      last = leb-true _ _ last;
+      enable = leb-true _ _ enable;
+      slots = slots;
+    }
 
 pub facts-inRange : (s : Sender) → SenderFacts s → inRange s ≡ true
 unfolding inRange
 facts-inRange s f =
     and-both _ _
+    (and-both _ _
     (and-both _ _ (and-both _ _ (le-leb _ _ (f .count)) (eq-eqb _ _ (f .circuits))) (le-leb _ _ (f .last)))
+    (le-leb _ _ (f .enable)))
     (f .slots)
 
 -- the slot of a circuit number, and a slot that is changed

@@ -37,6 +37,7 @@ offeredSender s c priority repetition message =
             place = 0;
           });
       last = s .last;
+      enable = s .enable;
     }
 
 -- "An accepted offer copies its message to the start of the region and writes nothing else"

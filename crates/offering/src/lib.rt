@@ -29,6 +29,7 @@ pub struct Sender {
     pub circuits: Circuits,
     pub slots: [Slot; 4],
     pub last: u8,
+    pub enable: u8,
 }
 
 // What listing a sender answers.
@@ -65,6 +66,7 @@ impl Sender {
             circuits,
             slots: [slot; 4],
             last: 3,
+            enable: 15,
         }
     }
 
@@ -139,6 +141,7 @@ impl Sender {
             circuits,
             slots,
             last: self.last,
+            enable: self.enable,
         }
     }
 

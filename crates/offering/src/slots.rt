@@ -67,6 +67,9 @@ impl Sender {
         if 3 < self.last {
             return false;
         }
+        if 15 < self.enable {
+            return false;
+        }
         let slots = self.slots;
         slots_in_range(slots, circuits.count as usize)
     }

@@ -13,7 +13,7 @@ address p = getD p 0 0
 unfoldable pub controlIn : List ℕ → ℕ
 controlIn p = getD p 1 0
 
--- "A7 A6 are [the link]; A5 extension present; A4 A3 A2 continuity index"
+-- "A7 A6 are [the link]; A5 extension present; A4 A3 A2 continuity index; A1 A0 priority, 3 highest"
 unfoldable pub link : List ℕ → ℕ
 link p = controlIn p / 64
 
@@ -22,6 +22,9 @@ extended p = controlIn p / 32 % 2
 
 unfoldable pub index : List ℕ → ℕ
 index p = controlIn p / 4 % 8
+
+unfoldable pub priority : List ℕ → ℕ
+priority p = controlIn p % 4
 
 -- where the segment begins
 unfoldable pub lead : List ℕ → ℕ

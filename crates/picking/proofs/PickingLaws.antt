@@ -225,6 +225,7 @@ served-in-range s enable c e p =
       count = f .count;
       circuits = f .circuits;
       last = omega arith;
+      enable = f .enable;
       slots =
           rw (take-set-lt (s .circuits .count) (s .slots) c (advanced (slotAt s c)) (g .count))
           (slotsInRange-set (take (s .circuits .count) (s .slots)) c (advanced (slotAt s c)) (f .slots) t);

@@ -67,7 +67,7 @@ advanced t =
 
 -- the record after a copy of circuit c is placed
 unfoldable pub served : Sender → ℕ → Sender
-served s c = record { circuits = s .circuits; slots = set (s .slots) c (advanced (slotAt s c)); last = c }
+served s c = record { circuits = s .circuits; slots = set (s .slots) c (advanced (slotAt s c)); last = c; enable = s .enable }
 
 -- the copies that wait at a slot
 unfoldable pub copiesWaiting : Slot → ℕ

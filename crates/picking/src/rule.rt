@@ -95,5 +95,6 @@ pub fn serve(sender: Sender, circuit: usize) -> Sender
         circuits,
         slots,
         last: circuit as u8,
+        enable: sender.enable,
     }
 }

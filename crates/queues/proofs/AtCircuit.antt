@@ -4,6 +4,7 @@ use Prim.Native.Nat.{ℕ, zero, suc, _+_, _≤_, _<_}
 use native.Mathlib.Omega.{arith}
 use mathlib.Core.Bool.{Bool, true, false, cond, true≢false}
 use mathlib.Core.List.{List, [], _∷_, _++_, map, append-assoc, append-nil, nil≢cons}
+use mathlib.Core.Option.{Option, none}
 use mathlib.Core.Path.{_≡_, refl, sym, ap, _∙_}
 use lib.ListN.{length, getD, set, List·getD-eq-default}
 use lib.Dec.{ltb}
@@ -14,7 +15,8 @@ use Rattle.packet.specs.Circuits.{alike, twoAlike, noCircuit}
 use Rattle.packet.specs.Lists.{anyOf, those}
 use Rattle.packet.specs.Messages.{longest, packets}
 use Rattle.packet.proofs.CircuitLists.{alike-is}
-use Rattle.queues.specs.Queues.{Copy, Queue, Queues, freshQueue, freshQueues, queueAt, queueFor, Message, messageCopies, messageFor, offered, offerQueues, behind, serveQueues, pickQueue, Placed, takenNone, andTaken, takeUpTo, copiesInQueues, takeFrames}
+use Rattle.sender.specs.Blocks.{inForce}
+use Rattle.queues.specs.Queues.{Copy, Queue, Queues, freshQueue, freshQueues, queueAt, queueFor, Message, messageCopies, messageFor, offered, offerQueues, behind, serveQueues, pickQueue, ruledQueues, Placed, takenNone, andTaken, takeUpTo, copiesInQueues, takeFrames}
 use Rattle.queues.specs.Effects.{Effect, noEffect, sendsMessage, takesFrames, takenFor, TakenBlock, queuesAfterEffect, sentBy, takenBy, queuesAfter, messagesSent, blocksTaken}
 use Rattle.queues.specs.Sent.{messagesAt, copiesSent, placedAt, framesOf}
 use Rattle.queues.proofs.Queues.{cons-behindFirst, taking-cases}
@@ -172,9 +174,14 @@ module _ (k : Circuit) where
         (later : List Message) → Offered k (queueFor (r .queues) k .sent) later → Offered k (queueFor (q .queues) k .sent) (messagesAt k ms ++ later)
     pub circuits-stay : circuits (r .queues) ≡ circuits (q .queues)
 
+  -- nothing was, whichever enable bits are in force then
+  at-ruled : (q : Queues) (enable : Option ℕ) → AtCircuit q [] [] (ruledQueues q enable)
+  unfolding messagesAt those copiesSent placedAt ruledQueues
+  at-ruled q enable = record { copies = append-nil (queueFor (q .queues) k .copies); counted = λ later h. h; circuits-stay = refl }
+
   at-none : (q : Queues) → AtCircuit q [] [] q
-  unfolding messagesAt those copiesSent placedAt
-  at-none q = record { copies = append-nil (queueFor (q .queues) k .copies); counted = λ later h. h; circuits-stay = refl }
+  unfolding ruledQueues inForce
+  at-none q = at-ruled q none
 
   at-append : (q : Queues) (ms : List Message) (ps : List Placed) (r : Queues) (ms′ : List Message) (ps′ : List Placed) (s : Queues)
       → AtCircuit q ms ps r → AtCircuit r ms′ ps′ s → AtCircuit q (ms ++ ms′) (ps ++ ps′) s
@@ -266,11 +273,12 @@ module _ (k : Circuit) where
       counts false f later h = h
 
   at-effect : (x : Effect) (q : Queues) → Apart q → RightEffect q x → AtCircuit q (sentBy q x) (framesOf (takenBy q x)) (queuesAfterEffect q x)
-  unfolding RightEffect sentBy takenBy framesOf queuesAfterEffect takenFor takeFrames
+  unfolding RightEffect sentBy takenBy framesOf queuesAfterEffect takenFor takeFrames Apart ruledQueues
   at-effect noEffect q apart right = at-none q
   at-effect (sendsMessage d priority repetition message) q apart right = at-offer q d priority repetition message apart (right .0) (right .1) (right .2)
   at-effect (takesFrames t) q apart right =
-      rw append-nil (at-takeUpTo (copiesInQueues (q .queues)) q _ (t .enable) (t .usable) apart)
+      let now : Queues = ruledQueues q (t .enable) in
+      rw append-nil (at-append q [] [] now [] _ _ (at-ruled q (t .enable)) (at-takeUpTo (copiesInQueues (q .queues)) now _ _ (t .usable) apart))
 
   pub at-effects : (xs : List Effect) (q : Queues) → Apart q → AllRight q xs
       → AtCircuit q (messagesSent q xs) (framesOf (blocksTaken q xs)) (queuesAfter q xs)

@@ -1,7 +1,7 @@
 -- The queues at work: two circuits, a message at each, the second in two copies and of the higher priority, and a block of 256 bits. The copies
 -- of the higher priority come first, and all of them have room.
 use Prim.Native.Nat.{ℕ}
-use mathlib.Core.Bool.{false, xor}
+use mathlib.Core.Bool.{true, false, xor}
 use mathlib.Core.List.{List, [], _∷_, map}
 use mathlib.Core.Path.{_≡_, refl, ap, _∙_}
 use lib.ListN.{replicate}
@@ -11,14 +11,16 @@ use Rattle.hdlc.specs.Stuffing.{stuffFrom, stuff}
 use Rattle.hdlc.specs.Frames.{flag, withFcs, frame}
 use Rattle.packet.specs.Circuits.{circuitsOf, wrongLength, addressFF, wrongExtension, alike, twoAlike, circuitsRefusal, listRefusal, listed, noCircuit, recordOf, listing}
 use Rattle.packet.specs.Messages.{longest, header, headed, segment, packets, linkOf}
-use Rattle.packet.specs.Packets.{control, extensionOf, packetOf}
+use Rattle.packet.specs.Packets.{control, extensionOf, packetOf, systemPacket}
 use Rattle.packet.specs.Lists.{anyOf}
 use Rattle.packet.specs.Stores.{region}
-use Rattle.offering.specs.Record.{storeLength, freshSlot, fresh, slotAt, pending, slotInRange, slotsInRange, inRange}
+use Rattle.offering.specs.Record.{storeLength, freshSlot, fresh, slotAt, pending, messageAt, slotInRange, slotsInRange, inRange}
 use Rattle.offering.specs.Offering.{offerRefusal, offeredSender, offeredStore, senderAfterOffer, storeAfterOffer}
-use Rattle.picking.specs.Picking.{enabled, goingRound, orElse}
-use Rattle.sender.specs.Blocks.{framesBits, flaggedFrames, System, systemPackets, enableBits, wrongSize, shortBuffer, wrongSystem, blockRefusal}
-use Rattle.queues.specs.Queues.{freshQueue, freshQueues, queueAt, copyOf, copiesFrom, messageCopies, messageFor, offered, offerQueues, frontHas, firstQueue, pickQueueFrom, pickQueue, behindFirst, behind, serveQueues, Placed, takenNone, andTaken, takingFirst, taking, takeUpTo, copiesInQueues, takeFrames}
+use Rattle.picking.specs.Picking.{enabled, waitsAt, goingRound, firstWaiting, orElse, pickFrom, pick, advanced, served, copiesWaiting}
+use Rattle.writing.specs.PacketParts.{packetAt}
+use Rattle.writing.specs.NextFrame.{nextPacket, nextFrame}
+use Rattle.sender.specs.Blocks.{framesBits, flaggedFrames, full, andThen, placing, fill, copiesIn, waiting, fillUp, System, systemPackets, enableBits, inForce, ruled, blockFilled, wrongSize, shortBuffer, wrongSystem, blockRefusal, senderAfterBlock}
+use Rattle.queues.specs.Queues.{freshQueue, freshQueues, queueAt, copyOf, copiesFrom, messageCopies, messageFor, offered, offerQueues, frontHas, firstQueue, pickQueueFrom, pickQueue, behindFirst, behind, serveQueues, ruledQueues, Placed, takenNone, andTaken, takingFirst, taking, takeUpTo, copiesInQueues, takeFrames}
 use Rattle.queues.specs.Effects.{takenFor, TakenBlock, bitsOfBlock, queuesAfterEffect, takenBy, blocksTaken}
 use Rattle.queues.specs.Calls.{Call, offer, block, freshEnd, accepted, afterCall, effect, effectOf, effects, blocksMade}
 use Rattle.queues.proofs.BlocksAreQueues.{blocks-are-queues}
@@ -57,9 +59,9 @@ unfolding list nothingWanted calls first second expected
     longest header headed segment packets linkOf control extensionOf packetOf
     region storeLength freshSlot fresh slotAt pending slotInRange slotsInRange inRange
     offerRefusal offeredSender offeredStore senderAfterOffer storeAfterOffer enabled goingRound orElse
-    framesBits flaggedFrames systemPackets enableBits wrongSize shortBuffer wrongSystem blockRefusal
+    framesBits flaggedFrames systemPackets enableBits inForce wrongSize shortBuffer wrongSystem blockRefusal
     freshQueue freshQueues queueAt copyOf copiesFrom messageCopies messageFor offered offerQueues
-    frontHas firstQueue pickQueueFrom pickQueue behindFirst behind serveQueues
+    frontHas firstQueue pickQueueFrom pickQueue behindFirst behind serveQueues ruledQueues
     takenNone andTaken takingFirst taking takeUpTo copiesInQueues takeFrames
     takenFor queuesAfterEffect takenBy blocksTaken accepted afterCall effect effectOf effects
 taken-example = refl
@@ -68,3 +70,43 @@ taken-example = refl
 made-example : blocksMade (freshEnd list (replicate 16384 0)) calls ≡ map bitsOfBlock (expected ∷ [])
 unfolding list circuitsOf anyOf wrongLength addressFF wrongExtension alike twoAlike circuitsRefusal listRefusal
 made-example = blocks-are-queues list (replicate 16384 0) calls refl ∙ ap (map bitsOfBlock) taken-example
+
+-- enable bits that hold over: a system packet with only priority 1 enabled, a block without one, a refused one, and one with all enabled
+wanting : ℕ → System
+wanting enable = record { wanted = true; enable = enable; code = 0; information = [] }
+
+heldCalls : List Call
+heldCalls =
+    offer 0 1 0 (0xff ∷ []) ∷
+    offer 1 2 1 (0x7e ∷ 0x7e ∷ []) ∷
+    block 256 256 (replicate 32 0) (wanting 2) ∷
+    block 256 256 (replicate 32 0) nothingWanted ∷
+    block 256 256 (replicate 32 0) (wanting 16) ∷
+    block 256 256 (replicate 32 0) nothingWanted ∷
+    block 256 256 (replicate 32 0) (wanting 15) ∷
+    []
+
+-- circuit 1 waits until the last block, and the refused one is not among them
+heldBlocks : List TakenBlock
+heldBlocks =
+    record { size = 256; before = (0xff ∷ 0xc2 ∷ 0 ∷ []) ∷ []; frames = first ∷ [] } ∷
+    record { size = 256; before = []; frames = [] } ∷
+    record { size = 256; before = []; frames = [] } ∷
+    record { size = 256; before = (0xff ∷ 0xcf ∷ 0 ∷ []) ∷ []; frames = second ∷ second ∷ [] } ∷
+    []
+
+held-example : blocksTaken (freshQueues (circuitsOf list)) (effects (freshEnd list (replicate 16384 0)) heldCalls) ≡ heldBlocks
+unfolding list nothingWanted wanting heldCalls heldBlocks first second
+    odd lowBits byteBits bitsOf xor poly divided fcsBit fcsRun preset complement fcsOf lowFirst stuffFrom stuff flag withFcs frame
+    circuitsOf anyOf wrongLength addressFF wrongExtension alike twoAlike circuitsRefusal listRefusal listed noCircuit recordOf listing
+    longest header headed segment packets linkOf control extensionOf packetOf systemPacket
+    region storeLength freshSlot fresh slotAt pending messageAt slotInRange slotsInRange inRange
+    offerRefusal offeredSender offeredStore senderAfterOffer storeAfterOffer enabled goingRound orElse
+    waitsAt firstWaiting pickFrom pick advanced served copiesWaiting packetAt nextPacket nextFrame
+    framesBits flaggedFrames full andThen placing fill copiesIn waiting fillUp systemPackets enableBits inForce ruled blockFilled
+    wrongSize shortBuffer wrongSystem blockRefusal senderAfterBlock
+    freshQueue freshQueues queueAt copyOf copiesFrom messageCopies messageFor offered offerQueues
+    frontHas firstQueue pickQueueFrom pickQueue behindFirst behind serveQueues ruledQueues
+    takenNone andTaken takingFirst taking takeUpTo copiesInQueues takeFrames
+    takenFor queuesAfterEffect takenBy blocksTaken accepted afterCall effect effectOf effects
+held-example = refl

@@ -9,4 +9,6 @@ pub mod BlocksAreQueues
 pub mod AtCircuit
 pub mod FirstInFirstOut
 pub mod IndexCounts
+pub mod EnableInForce
+pub mod PlacedEnabled
 pub mod Example

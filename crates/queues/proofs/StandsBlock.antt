@@ -4,19 +4,19 @@ use native.Mathlib.Omega.{arith}
 use mathlib.Core.Bool.{Bool, true, false, cond}
 use mathlib.Core.List.{List, [], _∷_}
 use mathlib.Core.Option.{Option, none, some}
-use mathlib.Core.Path.{_≡_, refl, sym, ap, ap₂}
+use mathlib.Core.Path.{_≡_, refl, sym, ap, ap₂, subst}
 use lib.ListN.{length, take, getD}
 use lib.Dec.{leb}
 use Rattle.packet.specs.Circuits.{noCircuit}
 use Rattle.offering.specs.declared.Slot.{Slot}
 use Rattle.offering.specs.declared.Sender.{Sender}
 use Rattle.offering.specs.Record.{noSlot, slotAt, messageAt}
-use Rattle.offering.proofs.Ranges.{inRange-facts}
+use Rattle.offering.proofs.Ranges.{inRange-facts, facts-inRange}
 use Rattle.picking.specs.Picking.{pick, served, copiesWaiting}
 use Rattle.writing.specs.NextFrame.{nextFrame}
-use Rattle.sender.specs.Blocks.{flaggedFrames, placedPackets, Filled, full, andThen, placing, fill, copiesIn, waiting, fillUp, blockFilled}
-use Rattle.queues.specs.Queues.{Queue, Queues, freshQueue, queueAt, serveQueues, Placed, Taken, takenNone, andTaken, takingFirst, taking, takeUpTo, copiesInQueues, takeFrames}
-use Rattle.queues.specs.Effects.{packetsTaken}
+use Rattle.sender.specs.Blocks.{flaggedFrames, placedPackets, Filled, full, andThen, placing, fill, copiesIn, waiting, fillUp, inForce, ruled, blockFilled}
+use Rattle.queues.specs.Queues.{Queue, Queues, freshQueue, queueAt, serveQueues, ruledQueues, Placed, Taken, takenNone, andTaken, takingFirst, taking, takeUpTo, copiesInQueues, takeFrames}
+use Rattle.queues.specs.Effects.{BlockAsked, takenFor, packetsTaken}
 use Rattle.queues.specs.Stands.{Stands}
 use Rattle.queues.proofs.Stands.{StandsFor-copiesWaiting}
 use Rattle.queues.proofs.StandsPick.{stands-pick, stands-first, stands-serve}
@@ -80,10 +80,35 @@ waiting-copiesInQueues s store q h =
     let listed : i < s .circuits .count = rw (h .count) at e in
     StandsFor-copiesWaiting (getD (s .circuits .list) i noCircuit) (slotAt s i) (messageAt s store i) (queueAt q i) (h .each i listed)))
 
+-- frames from bit `at` on, under the enable bits in force
+stands-fillUp : (s : Sender) (store : List ℕ) (q : Queues) (at u : ℕ) → Stands s store q
+    → FilledAs store (fillUp s store at (s .enable) u) (takeFrames q at (q .enable) u)
+unfolding fillUp takeFrames
+stands-fillUp s store q at u h =
+    subst (λ enable. FilledAs store (fillUp s store at (s .enable) u) (takeFrames q at enable u)) (sym (h .enable))
+    (rw (waiting-copiesInQueues s store q h) (FilledAs-fill (copiesInQueues (q .queues)) s store q at (s .enable) u h))
+
+-- the record under the enable bits of a block, where they are at most 15, stands for the queues under them
+stands-ruled : (s : Sender) (store : List ℕ) (q : Queues) (enable : Option ℕ) → Stands s store q → inForce (s .enable) enable ≤ 15
+    → Stands (ruled s enable) store (ruledQueues q enable)
+unfolding ruled ruledQueues slotAt messageAt queueAt
+stands-ruled s store q enable h few =
+    let f = inRange-facts s (h .range) in
+    record {
+      range =
+          facts-inRange (ruled s enable) (record { count = f .count; circuits = f .circuits; last = f .last; enable = few; slots = f .slots });
+      places = h .places;
+      slots = h .slots;
+      count = h .count;
+      last = h .last;
+      enable = ap (λ held. inForce held enable) (h .enable);
+      each = h .each;
+    }
+
 -- our frames in a block are the copies that the block rule takes from the queues
-pub stands-block : (s : Sender) (store : List ℕ) (q : Queues) (u : ℕ) (before : List (List ℕ)) (enable : ℕ) → Stands s store q
-    → FilledAs store (blockFilled s store u before enable) (takeFrames q (length (flaggedFrames before)) enable u)
-unfolding blockFilled fillUp takeFrames
-stands-block s store q u before enable h =
-    rw (waiting-copiesInQueues s store q h)
-    (FilledAs-fill (copiesInQueues (q .queues)) s store q (length (flaggedFrames before)) enable u h)
+pub stands-block : (s : Sender) (store : List ℕ) (q : Queues) (t : BlockAsked) → Stands s store q → inForce (s .enable) (t .enable) ≤ 15
+    → FilledAs store (blockFilled (ruled s (t .enable)) store (t .usable) (t .before)) (takenFor q t)
+unfolding blockFilled takenFor
+stands-block s store q t h few =
+    stands-fillUp (ruled s (t .enable)) store (ruledQueues q (t .enable)) (length (flaggedFrames (t .before))) (t .usable)
+    (stands-ruled s store q (t .enable) h few)

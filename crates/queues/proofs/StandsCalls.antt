@@ -20,7 +20,8 @@ use Rattle.offering.specs.Record.{freshSlot, fresh, noSlot, slotAt, messageAt, 
 use Rattle.offering.specs.Offering.{offerRefusal, offeredSender, offeredStore, senderAfterOffer, storeAfterOffer}
 use Rattle.offering.proofs.Ranges.{facts-inRange}
 use Rattle.offering.proofs.Offers.{OfferFacts, offerRefusal-zero}
-use Rattle.sender.specs.Blocks.{System, systemPackets, enableBits, blockFilled, blockRefusal, senderAfterBlock}
+use Rattle.sender.specs.Blocks.{System, systemPackets, enableBits, ruled, blockFilled, blockRefusal, senderAfterBlock}
+use Rattle.sender.proofs.InForce.{inForce-fits}
 use Rattle.queues.specs.Queues.{Queues, freshQueue, freshQueues, queueAt, copiesFrom}
 use Rattle.queues.specs.Effects.{Effect, noEffect, sendsMessage, takesFrames, takenFor, queuesAfterEffect, queuesAfter}
 use Rattle.queues.specs.Calls.{Call, offer, block, End, freshEnd, accepted, afterCall, afterCalls, effect, effectOf, effects}
@@ -49,6 +50,7 @@ module _ (cs : List Circuit) (few : length cs ≤ 4) (right : circuitsRefusal cs
         count = few;
         circuits = rw (take-take (length cs) 4 (cs ++ replicate 4 noCircuit) few, take-append-seam cs (replicate 4 noCircuit)) right;
         last = omega arith;
+        enable = omega arith;
         slots = slotsInRange-fresh (length cs) 4;
       })
 
@@ -61,6 +63,7 @@ module _ (cs : List Circuit) (few : length cs ≤ 4) (right : circuitsRefusal cs
         slots = refl;
         count = length-map cs freshQueue;
         last = refl;
+        enable = refl;
         each = each;
       }
     where
@@ -101,11 +104,13 @@ module _ (s : Sender) (store : List ℕ) (q : Queues) (h : Stands s store q) whe
       stands-offer s store q h c priority repetition message (eqb-true (offerRefusal s store c priority repetition message) 0 e)
   stands-offer-call c priority repetition message false e = h
 
-  stands-block-call : (n u : ℕ) (buffer : List ℕ) (y : System) (b : Bool)
-      → Stands (cond b (blockFilled s store u (systemPackets y) (enableBits y) .sender) s) store (queuesAfterEffect q (cond b (effect (block n u buffer y)) noEffect))
-  unfolding queuesAfterEffect effect takenFor
-  stands-block-call n u buffer y true = stands-block s store q u (systemPackets y) (enableBits y) h .stands
-  stands-block-call n u buffer y false = h
+  stands-block-call : (n u : ℕ) (buffer : List ℕ) (y : System) (b : Bool) → eqb (blockRefusal s store buffer n u y) 0 ≡ b
+      → Stands (cond b (blockFilled (ruled s (enableBits y)) store u (systemPackets y) .sender) s) store
+      (queuesAfterEffect q (cond b (effect (block n u buffer y)) noEffect))
+  unfolding queuesAfterEffect effect
+  stands-block-call n u buffer y true e =
+      stands-block s store q _ h (inForce-fits s store buffer n u y (eqb-true (blockRefusal s store buffer n u y) 0 e)) .stands
+  stands-block-call n u buffer y false e = h
 
 -- record and store follow a call's effect
 pub stands-call : (call : Call) (e : End) (q : Queues) → Stands (e .sender) (e .store) q
@@ -115,7 +120,7 @@ stands-call (offer c priority repetition message) e q h =
     stands-offer-call (e .sender) (e .store) q h c priority repetition message
     (eqb (offerRefusal (e .sender) (e .store) c priority repetition message) 0) refl
 stands-call (block n u buffer y) e q h =
-    stands-block-call (e .sender) (e .store) q h n u buffer y (eqb (blockRefusal (e .sender) (e .store) buffer n u y) 0)
+    stands-block-call (e .sender) (e .store) q h n u buffer y (eqb (blockRefusal (e .sender) (e .store) buffer n u y) 0) refl
 
 Stands-afterCalls : (calls : List Call) (e : End) (q : Queues) → Stands (e .sender) (e .store) q
     → Stands (afterCalls e calls .sender) (afterCalls e calls .store) (queuesAfter q (effects e calls))

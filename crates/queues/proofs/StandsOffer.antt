@@ -82,6 +82,7 @@ module _ (s : Sender) (store : List ℕ) (q : Queues) (h : Stands s store q) (c 
         count = f .count;
         circuits = f .circuits;
         last = f .last;
+        enable = f .enable;
         slots =
             rw (take-set-lt (s .circuits .count) (s .slots) c newSlot (a .circuit))
             (slotsInRange-set (take (s .circuits .count) (s .slots)) c newSlot (f .slots) newSlot-in-range);

@@ -78,12 +78,12 @@ module _ (s : Sender) (store : List ℕ) (q : Queues) (h : Stands s store q) whe
 
   -- the record with another slot at a listed number c stands for the queues with another queue there
   pub Stands-set : (store′ : List ℕ) (c : ℕ) (t : Slot) (p : Queue) (last last′ : ℕ) → last′ ≡ last → c < s .circuits .count
-      → inRange (record { circuits = s .circuits; slots = set (s .slots) c t; last = last }) ≡ true
+      → inRange (record { circuits = s .circuits; slots = set (s .slots) c t; last = last; enable = s .enable }) ≡ true
       → ((i : ℕ) → (i ≡ c → ⊥) → i < s .circuits .count
       → take (slotAt s i .length) (drop (region * i) store′) ≡ messageAt s store i)
       → StandsFor (getD (s .circuits .list) c noCircuit) t (take (t .length) (drop (region * c) store′)) p
-      → Stands (record { circuits = s .circuits; slots = set (s .slots) c t; last = last }) store′
-      (record { queues = set (q .queues) c p; last = last′ })
+      → Stands (record { circuits = s .circuits; slots = set (s .slots) c t; last = last; enable = s .enable }) store′
+      (record { queues = set (q .queues) c p; last = last′; enable = q .enable })
   unfolding slotAt messageAt queueAt
   Stands-set store′ c t p last last′ same listed range others here =
       record {
@@ -92,6 +92,7 @@ module _ (s : Sender) (store : List ℕ) (q : Queues) (h : Stands s store q) whe
         slots = length-set (s .slots) c t ∙ h .slots;
         count = length-set (q .queues) c p ∙ h .count;
         last = same;
+        enable = h .enable;
         each = λ i e. go i e (eqb i c) refl;
       }
     where

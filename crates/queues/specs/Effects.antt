@@ -2,15 +2,17 @@
 use Prim.Native.Nat.{ℕ}
 use mathlib.Core.Bool.{Bool}
 use mathlib.Core.List.{List, [], _∷_, _++_, map}
+use mathlib.Core.Option.{Option}
 use lib.ListN.{length}
 use Rattle.sender.specs.Blocks.{flaggedFrames, blockOf}
-use Rattle.queues.specs.Queues.{Message, messageFor, Queues, queueAt, offerQueues, Placed, Taken, takeFrames}
+use Rattle.queues.specs.Queues.{Message, messageFor, Queues, queueAt, offerQueues, ruledQueues, Placed, Taken, takeFrames}
 
--- what a block takes its frames by: its size N, the packets that stand before ours, the enable bits in force, and U
+-- what a block takes its frames by: its size N, the packets that stand before ours, the enable bits of the system packet among them, if there is
+-- one, and U
 pub record BlockAsked : Type 0 where
   pub size : ℕ
   pub before : List (List ℕ)
-  pub enable : ℕ
+  pub enable : Option ℕ
   pub usable : ℕ
 
 -- what a call does to the queues: nothing; it sends a message, of a priority and a repetition, at a circuit number; or it takes the frames of a block
@@ -21,9 +23,11 @@ pub data Effect : Type 0 where
 
 -- ---- taking
 
--- the frames that the block rule takes from the queues, behind those of the packets before them
+-- the frames that the block rule takes from the queues under the enable bits in force, behind those of the packets before them
 unfoldable pub takenFor : Queues → BlockAsked → Taken
-takenFor q t = takeFrames q (length (flaggedFrames (t .before))) (t .enable) (t .usable)
+takenFor q t =
+    let now = ruledQueues q (t .enable) in
+    takeFrames now (length (flaggedFrames (t .before))) (now .enable) (t .usable)
 
 -- a block by what is in it: N, the packets that stand before ours, and our frames
 pub record TakenBlock : Type 0 where

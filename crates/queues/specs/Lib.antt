@@ -1,6 +1,8 @@
--- The definitions of `queues`: queues of waiting copies, what calls do to them, lists of calls, and for which queues record and store stand.
+-- The definitions of `queues`: queues of waiting copies, what calls do to them, lists of calls, for which queues record and store stand, and the enable
+-- bits in force.
 pub mod Queues
 pub mod Effects
 pub mod Calls
 pub mod Stands
 pub mod Sent
+pub mod EnableBits

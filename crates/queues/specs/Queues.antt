@@ -13,6 +13,7 @@ use Rattle.packet.specs.Circuits.{alike, noCircuit}
 use Rattle.packet.specs.Messages.{packets, segment, linkOf}
 use Rattle.packet.specs.Packets.{packetOf}
 use Rattle.picking.specs.Picking.{enabled, goingRound, orElse}
+use Rattle.sender.specs.Blocks.{inForce}
 
 -- a copy that waits: its packet's bytes, the packet's number at its circuit, from 0, and its priority
 pub record Copy : Type 0 where
@@ -26,17 +27,18 @@ pub record Queue : Type 0 where
   pub copies : List Copy
   pub sent : ℕ
 
--- the queues by circuit number, and the circuit last served
+-- the queues by circuit number, the circuit last served, and the enable bits in force (request 4)
 pub record Queues : Type 0 where
   pub queues : List Queue
   pub last : ℕ
+  pub enable : ℕ
 
 unfoldable pub freshQueue : Circuit → Queue
 freshQueue c = record { circuit = c; copies = []; sent = 0 }
 
--- a fresh sender's queues: nothing waits, circuit 0 is first
+-- a fresh sender's queues: nothing waits, circuit 0 is first, "all four enabled"
 unfoldable pub freshQueues : List Circuit → Queues
-freshQueues cs = record { queues = map freshQueue cs; last = 3 }
+freshQueues cs = record { queues = map freshQueue cs; last = 3; enable = 15 }
 
 unfoldable pub queueAt : Queues → ℕ → Queue
 queueAt q c = getD (q .queues) c (freshQueue noCircuit)
@@ -92,7 +94,7 @@ offered q priority repetition message =
 
 unfoldable pub offerQueues : Queues → ℕ → ℕ → ℕ → List ℕ → Queues
 offerQueues q c priority repetition message =
-    record { queues = set (q .queues) c (offered (queueAt q c) priority repetition message); last = q .last }
+    record { queues = set (q .queues) c (offered (queueAt q c) priority repetition message); last = q .last; enable = q .enable }
 
 -- "10 an earlier message there still has a copy to place" (`stands-pending`)
 unfoldable pub someWaits : List Copy → Bool
@@ -130,7 +132,11 @@ behind q = record { circuit = q .circuit; copies = behindFirst (q .copies); sent
 
 -- circuit c is served: its first copy "waits no more"
 unfoldable pub serveQueues : Queues → ℕ → Queues
-serveQueues q c = record { queues = set (q .queues) c (behind (queueAt q c)); last = c }
+serveQueues q c = record { queues = set (q .queues) c (behind (queueAt q c)); last = c; enable = q .enable }
+
+-- the queues that a block takes from: its system packet's enable bits are in force, or those before it
+unfoldable pub ruledQueues : Queues → Option ℕ → Queues
+ruledQueues q enable = record { queues = q .queues; last = q .last; enable = inForce (q .enable) enable }
 
 -- a frame placed: the circuit, and the copy
 pub record Placed : Type 0 where

@@ -31,6 +31,7 @@ pub record Stands (s : Sender) (store : List ℕ) (q : Queues) : Type 0 where
   pub slots : length (s .slots) ≡ 4
   pub count : length (q .queues) ≡ s .circuits .count
   pub last : q .last ≡ s .last
+  pub enable : q .enable ≡ s .enable
   pub each :
       (c : ℕ) →
       c < s .circuits .count →

@@ -25,6 +25,8 @@ use Rattle.sender.specs.Blocks.{
   System,
   systemPackets,
   enableBits,
+  inForce,
+  ruled,
   blockFilled,
   usedBits,
   blockBits,
@@ -37,27 +39,32 @@ use Rattle.sender.proofs.UsedBits.{usedBits-behind}
 use Rattle.sender.proofs.UsedAtMostU.{used-at-most-U}
 use Rattle.sender.proofs.OpeningBits.{length-opening}
 use Rattle.sender.proofs.BlockRefusals.{Accepted, accepted}
+use Rattle.sender.proofs.InForce.{ruled-in-range}
 use Rattle.sender.proofs.BlockBits.{Closed-blockBuffer}
 
 -- frames written behind those of any packets before them
-module _ (s : Sender) (store : List ℕ) (u : ℕ) (before : List (List ℕ)) (enable : ℕ) {old b₁ b₂ : List ℕ} {at : ℕ} {r : Fill}
-    (opened : Written old 0 (flaggedFrames before) b₁ at) (f : FramesWritten b₁ at (fillUp s store at enable u) b₂ r) where
-  FramesWritten-block : FramesWritten b₁ at (blockFilled s store u before enable) b₂ r
+module _ (s : Sender) (store : List ℕ) (u : ℕ) (before : List (List ℕ)) {old b₁ b₂ : List ℕ} {at : ℕ} {r : Fill}
+    (opened : Written old 0 (flaggedFrames before) b₁ at) (f : FramesWritten b₁ at (fillUp s store at (s .enable) u) b₂ r) where
+  FramesWritten-block : FramesWritten b₁ at (blockFilled s store u before) b₂ r
   unfolding blockFilled
   FramesWritten-block =
       let e : at ≡ length (flaggedFrames before) = opened .behind ∙ zero-add (length (flaggedFrames before)) in
       rw (← e) f
 
-  Written-used : Written old 0 (usedBits s store u before enable) b₂ (r .at)
+  Written-used : Written old 0 (usedBits s store u before) b₂ (r .at)
   Written-used =
-      let ours = placedPackets (blockFilled s store u before enable .frames) in
-      rw (usedBits-behind s store u before enable)
+      let ours = placedPackets (blockFilled s store u before .frames) in
+      rw (usedBits-behind s store u before)
       (Written-append (flaggedFrames before) (framesBits ours) opened (FramesWritten-block .written))
 
-  used-end : r .at ≡ length (usedBits s store u before enable)
-  used-end = Written-used .behind ∙ zero-add (length (usedBits s store u before enable))
+  used-end : r .at ≡ length (usedBits s store u before)
+  used-end = Written-used .behind ∙ zero-add (length (usedBits s store u before))
 
 module _ (s : Sender) (store old : List ℕ) (n u : ℕ) (y : System) where
+  -- the record with these enable bits
+  abbrev under : ℕ → Sender
+  under enable = record { circuits = s .circuits; slots = s .slots; last = s .last; enable = enable }
+
   -- a refused call
   pub BlockCalled-refused : (k : ℕ) → k ≡ blockRefusal s store old n u y → (k ≡ 0 → ⊥)
       → BlockCalled s store old n u y old (record { made = Refused k; sender = s })
@@ -75,22 +82,29 @@ module _ (s : Sender) (store old : List ℕ) (n u : ℕ) (y : System) where
 
     -- the opening is written
     module _ {b₁ : List ℕ} {at : ℕ} (opened : Written old 0 (flaggedFrames (systemPackets y)) b₁ at) (l₁ : length b₁ ≡ length old) where
-      pub before-frames : (inRange s ≡ true) × ((storeLength ≤ length store) × ((at ≤ u) × (u ≤ 8 * length b₁) × (u ≤ 27000)))
-      before-frames =
+      pub before-frames : {enable : ℕ} → enable ≡ inForce (s .enable) (enableBits y)
+          → (inRange (under enable) ≡ true) × ((storeLength ≤ length store) × ((at ≤ u) × (u ≤ 8 * length b₁) × (u ≤ 27000)))
+      unfolding ruled
+      before-frames {enable} e =
           let within : at ≤ u = omega (arith, opened .behind, length-opening y (known .allowed), known) in
-          (known .record-in-range, (known .store-long, (within, omega (arith, l₁, known), omega (arith, known))))
+          let range : inRange (under enable) ≡ true = rw e (ruled-in-range s store old n u y h) in
+          (range, (known .store-long, (within, omega (arith, l₁, known), omega (arith, known))))
 
-      -- and the frames are
-      module _ {b₂ : List ℕ} {enable : ℕ} {r : Fill} (e : enable ≡ enableBits y) (f : FramesWritten b₁ at (fillUp s store at enable u) b₂ r)
-          (l₂ : length b₂ ≡ length b₁) where
-        frames : FramesWritten b₁ at (fillUp s store at (enableBits y) u) b₂ r
+      -- and the frames are, under the enable bits in force
+      module _ {enable : ℕ} {b₂ : List ℕ} {r : Fill} (e : enable ≡ inForce (s .enable) (enableBits y))
+          (f : FramesWritten b₁ at (fillUp (under enable) store at enable u) b₂ r) (l₂ : length b₂ ≡ length b₁) where
+        abbrev now : Sender
+        now = ruled s (enableBits y)
+
+        frames : FramesWritten b₁ at (fillUp now store at (now .enable) u) b₂ r
+        unfolding ruled
         frames = rw (← e) f
 
         abbrev used : List Bool
-        used = usedBits s store u (systemPackets y) (enableBits y)
+        used = usedBits now store u (systemPackets y)
 
         end : r .at ≡ length used
-        end = used-end s store u (systemPackets y) (enableBits y) opened frames
+        end = used-end now store u (systemPackets y) opened frames
 
         used-le : length used ≤ u
         used-le = used-at-most-U s store old n u y h
@@ -103,8 +117,8 @@ module _ (s : Sender) (store old : List ℕ) (n u : ℕ) (y : System) where
             → BlockCalled s store old n u y new (record { made = Block (r .placed) (r .at); sender = r .sender })
         unfolding senderAfterBlock bufferAfterBlock answerToBlock madeOf usedBits blockBits blockOf
         BlockCalled-made {new} closed ho hn =
-            let filling = FramesWritten-block s store u (systemPackets y) (enableBits y) opened frames in
-            let written = Written-used s store u (systemPackets y) (enableBits y) opened frames in
+            let filling = FramesWritten-block now store u (systemPackets y) opened frames in
+            let written = Written-used now store u (systemPackets y) opened frames in
             record {
               sender = rw h (filling .sender);
               made = rw (h, filling .placed, end);

@@ -4,6 +4,7 @@ pub mod UsedBits
 pub mod OpeningBits
 pub mod FillTurn
 pub mod BlockRefusals
+pub mod InForce
 pub mod BlockBits
 pub mod UsedAtMostU
 pub mod BlockSteps

@@ -17,12 +17,12 @@ flaggedFrames-append : (ps qs : List (List ℕ)) → flaggedFrames (ps ++ qs) �
 unfolding flaggedFrames
 flaggedFrames-append ps qs = rw (framesBits-append ps qs) (sym (append-assoc flag (framesBits ps) (framesBits qs)))
 
-module _ (s : Sender) (store : List ℕ) (u : ℕ) (before : List (List ℕ)) (enable : ℕ) where
-  pub usedBits-behind : usedBits s store u before enable
-      ≡ flaggedFrames before ++ framesBits (placedPackets (blockFilled s store u before enable .frames))
+module _ (s : Sender) (store : List ℕ) (u : ℕ) (before : List (List ℕ)) where
+  pub usedBits-behind : usedBits s store u before
+      ≡ flaggedFrames before ++ framesBits (placedPackets (blockFilled s store u before .frames))
   unfolding usedBits blockPackets
-  usedBits-behind = flaggedFrames-append before (placedPackets (blockFilled s store u before enable .frames))
+  usedBits-behind = flaggedFrames-append before (placedPackets (blockFilled s store u before .frames))
 
-  pub used-within : length (flaggedFrames before) ≤ u → length (usedBits s store u before enable) ≤ u
+  pub used-within : length (flaggedFrames before) ≤ u → length (usedBits s store u before) ≤ u
   unfolding blockFilled
-  used-within h = rw (usedBits-behind, length-append) (fillUp-used s store (length (flaggedFrames before)) enable u h)
+  used-within h = rw (usedBits-behind, length-append) (fillUp-used s store (length (flaggedFrames before)) (s .enable) u h)

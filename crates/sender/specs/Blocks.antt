@@ -91,25 +91,35 @@ pub record System : Type 0 where
 unfoldable pub systemPackets : System → List (List ℕ)
 systemPackets y = cond (y .wanted) (systemPacket (y .enable) (y .code) (y .information) ∷ []) []
 
--- "Its enable bits rule its own block; a block without one enables all"
-unfoldable pub enableBits : System → ℕ
-enableBits y = cond (y .wanted) (y .enable) 15
+-- the system packet's enable bits, if one is wanted
+unfoldable pub enableBits : System → Option ℕ
+enableBits y = cond (y .wanted) (some (y .enable)) none
 
--- our frames in a block, behind those of the packets before them, under the enable bits in force
-unfoldable pub blockFilled : Sender → List ℕ → ℕ → List (List ℕ) → ℕ → Filled
-blockFilled s store u before enable = fillUp s store (length (flaggedFrames before)) enable u
+-- "its enable bits rule its own block and all later ones, until another system packet is sent" (request 4): those in force, where `held` were
+-- in force before
+unfoldable pub inForce : ℕ → Option ℕ → ℕ
+inForce held none = held
+inForce held (some enable) = enable
+
+-- the record that a block is made from, with the enable bits in force in it
+unfoldable pub ruled : Sender → Option ℕ → Sender
+ruled s enable = record { circuits = s .circuits; slots = s .slots; last = s .last; enable = inForce (s .enable) enable }
+
+-- our frames in a block, behind those of the packets before them, under the record's enable bits
+unfoldable pub blockFilled : Sender → List ℕ → ℕ → List (List ℕ) → Filled
+blockFilled s store u before = fillUp s store (length (flaggedFrames before)) (s .enable) u
 
 -- all packets in a block, in order
-unfoldable pub blockPackets : Sender → List ℕ → ℕ → List (List ℕ) → ℕ → List (List ℕ)
-blockPackets s store u before enable = before ++ placedPackets (blockFilled s store u before enable .frames)
+unfoldable pub blockPackets : Sender → List ℕ → ℕ → List (List ℕ) → List (List ℕ)
+blockPackets s store u before = before ++ placedPackets (blockFilled s store u before .frames)
 
 -- the bits used, "which are those before the closing ones"
-unfoldable pub usedBits : Sender → List ℕ → ℕ → List (List ℕ) → ℕ → List Bool
-usedBits s store u before enable = flaggedFrames (blockPackets s store u before enable)
+unfoldable pub usedBits : Sender → List ℕ → ℕ → List (List ℕ) → List Bool
+usedBits s store u before = flaggedFrames (blockPackets s store u before)
 
 -- its N bits
-unfoldable pub blockBits : Sender → List ℕ → ℕ → ℕ → List (List ℕ) → ℕ → List Bool
-blockBits s store n u before enable = blockOf n (blockPackets s store u before enable)
+unfoldable pub blockBits : Sender → List ℕ → ℕ → ℕ → List (List ℕ) → List Bool
+blockBits s store n u before = blockOf n (blockPackets s store u before)
 
 -- "Bits fill bytes lowest first; spare bits of the last byte are 0; bytes behind it keep their values"
 unfoldable pub blockBuffer : List ℕ → List Bool → List ℕ
@@ -138,11 +148,11 @@ blockRefusal s store buffer n u y =
     (cond (shortBuffer buffer n) 12
     (cond (wrongSystem y) 13 0))))
 
--- "All refusals return .. the record given, and leave every lent byte unchanged"
+-- "All refusals return .. the record given, and leave every lent byte unchanged"; "A refused block changes nothing here" (request 4)
 unfoldable pub senderAfterBlock : Sender → List ℕ → List ℕ → ℕ → ℕ → System → Sender
 senderAfterBlock s store buffer n u y =
-    cond (eqb (blockRefusal s store buffer n u y) 0) (blockFilled s store u (systemPackets y) (enableBits y) .sender) s
+    cond (eqb (blockRefusal s store buffer n u y) 0) (blockFilled (ruled s (enableBits y)) store u (systemPackets y) .sender) s
 
 unfoldable pub bufferAfterBlock : Sender → List ℕ → List ℕ → ℕ → ℕ → System → List ℕ
 bufferAfterBlock s store buffer n u y =
-    cond (eqb (blockRefusal s store buffer n u y) 0) (blockBuffer buffer (blockBits s store n u (systemPackets y) (enableBits y))) buffer
+    cond (eqb (blockRefusal s store buffer n u y) 0) (blockBuffer buffer (blockBits (ruled s (enableBits y)) store n u (systemPackets y))) buffer

@@ -10,7 +10,7 @@ ghost use Rattle.hdlc.specs.Writing.{Room, Written};
 ghost use Rattle.packet.specs.Packets.{systemPacket};
 ghost use Rattle.offering.specs.Record.{storeLength, slotAt, pending, inRange};
 ghost use Rattle.writing.specs.NextFrame.{nextFrame};
-ghost use Rattle.sender.specs.Blocks.{flaggedFrames, fillUp, systemPackets, enableBits, wrongSystem, blockRefusal};
+ghost use Rattle.sender.specs.Blocks.{flaggedFrames, fillUp, systemPackets, enableBits, inForce, wrongSystem, blockRefusal};
 ghost use Rattle.sender.specs.BlockCalls.{system, Allowed, FramesWritten, Closed, BlockCalled};
 use crate::Fill;
 use crate::Made;
@@ -94,12 +94,12 @@ fn fill(buf: &mut [u8], sender: Sender, store: &[u8], at: usize, enable: u8, u: 
     }
 }
 
-// The enable bits of a block.
-fn enable_bits(wanted: bool, enable: u8) -> u8
-    ensures { λ r. ⌜ ((c : ℕ) (bytes : List ℕ) → r ≡ enableBits (system wanted enable c bytes)) ⌝ }
+// The enable bits in force in a block: its system packet's, or those held before it.
+fn in_force(held: u8, wanted: bool, enable: u8) -> u8
+    ensures { λ r. ⌜ ((c : ℕ) (bytes : List ℕ) → r ≡ inForce held (enableBits (system wanted enable c bytes))) ⌝ }
 {
     if !wanted {
-        return 15;
+        return held;
     }
     enable
 }
@@ -186,15 +186,17 @@ fn write_block(
     ensures { λ r. ⌜ BlockCalled sender (now (store .entry)) (now (buf .entry)) n u (system wanted enable code (now (information .entry))) (now (buf .exit)) r ⌝ }
 {
     let at = put_opening(buf, wanted, enable, code, information);
-    let f = fill(buf, sender, store, at, enable_bits(wanted, enable), u);
+    let mut s = sender;
+    s.enable = in_force(sender.enable, wanted, enable);
+    let f = fill(buf, s, store, at, s.enable, u);
     close(buf, f.at, n);
-    let s = f.sender;
+    let after = f.sender;
     Making {
         made: Made::Block {
             placed: f.placed,
             used: f.at,
         },
-        sender: s,
+        sender: after,
     }
 }
 

@@ -1,4 +1,4 @@
--- A sender's record and its 46 bytes determine each other: every record's bytes are unpacked to it, and all bytes are some record's.
+-- A sender's record and its 47 bytes determine each other: every record's bytes are unpacked to it, and all bytes are some record's.
 use mathlib.Core.Path.{_≡_, refl}
 use Prim.Native.Nat.{ℕ, _+_, _≤_}
 use native.Mathlib.Omega.{arith}
@@ -39,6 +39,7 @@ sender-unpacks s fits rest =
       circuits = circuits-unpack (s .circuits) (fits .circuits) [] i;
       slots = slots-unpack (s .slots) (fits .slots) i;
       last = s .last;
+      enable = s .enable;
     }
 
 -- ---- packing what was unpacked gives the bytes back, whichever they are
@@ -46,7 +47,7 @@ sender-unpacks s fits rest =
 pub sender-packs : (bytes : List ℕ) → Bytes bytes → senderLength ≤ length bytes → senderBytes (senderIn bytes) ≡ take senderLength bytes
 unfolding senderIn senderBytes circuitsIn circuitsBytes circuitFrom circuitBytes slotIn slotsBytes slotBytes
 sender-packs bytes are long =
-    simp (number-packs 2 bytes are) (rw (slice-empty 46 bytes) at (read-slice 46 bytes 0 46 (omega arith) long))
+    simp (number-packs 2 bytes are) (rw (slice-empty senderLength bytes) at (read-slice senderLength bytes 0 senderLength (omega arith) long))
 
 pub sender-fits : (bytes : List ℕ) → Bytes bytes → SenderFits (senderIn bytes)
 unfolding senderIn slotIn AllAre
@@ -55,6 +56,7 @@ sender-fits bytes are =
       circuits = circuits-fit bytes are;
       slots = record { four = refl; each = (slot 13, (slot 21, (slot 29, (slot 37, tt)))) };
       last = byte-fits bytes are 45;
+      enable = byte-fits bytes are 46;
     }
   where
     slot : (at : ℕ) → SenderSlotFits (slotIn bytes at)

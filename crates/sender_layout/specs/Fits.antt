@@ -16,3 +16,4 @@ pub record SenderFits (s : Sender) : Type 0 where
   pub circuits : CircuitsFit (s .circuits)
   pub slots : Four SenderSlotFits (s .slots)
   pub last : s .last < 256
+  pub enable : s .enable < 256

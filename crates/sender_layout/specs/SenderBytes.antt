@@ -1,4 +1,5 @@
--- A sender's record in 46 bytes: its circuits, four slots of 8, and the circuit last served. Every 46 bytes are some record's.
+-- A sender's record in 47 bytes: its circuits, four slots of 8, the circuit last served, and the enable bits in force. Every 47 bytes are some
+-- record's.
 use Prim.Native.Nat.{ℕ, _+_}
 use mathlib.Core.List.{List, [], _∷_, _++_}
 use lib.ListN.{getD}
@@ -8,7 +9,7 @@ use Rattle.offering.specs.Record.{noSlot}
 use Rattle.layout.specs.Layout.{lowBytes, byteAt, numberAt, circuitsBytes, circuitsIn}
 
 abbrev pub senderLength : ℕ
-senderLength = 46
+senderLength = 47
 
 -- a slot, 8 bytes: index, priority, repetition, copy, length, place
 unfoldable pub slotBytes : Slot → List ℕ
@@ -30,7 +31,7 @@ slotsBytes ts =
     slotBytes (getD ts 0 noSlot) ++ slotBytes (getD ts 1 noSlot) ++ slotBytes (getD ts 2 noSlot) ++ slotBytes (getD ts 3 noSlot)
 
 unfoldable pub senderBytes : Sender → List ℕ
-senderBytes s = circuitsBytes (s .circuits) ++ slotsBytes (s .slots) ++ s .last ∷ []
+senderBytes s = circuitsBytes (s .circuits) ++ slotsBytes (s .slots) ++ s .last ∷ s .enable ∷ []
 
 unfoldable pub senderIn : List ℕ → Sender
 senderIn bytes =
@@ -38,4 +39,5 @@ senderIn bytes =
       circuits = circuitsIn bytes;
       slots = slotIn bytes 13 ∷ slotIn bytes 21 ∷ slotIn bytes 29 ∷ slotIn bytes 37 ∷ [];
       last = byteAt bytes 45;
+      enable = byteAt bytes 46;
     }

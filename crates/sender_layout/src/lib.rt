@@ -14,7 +14,7 @@ use offering::Sender;
 use offering::Slot;
 
 // The lengths of a sender's record and of a block's answer.
-pub const LENGTH: usize = 46;
+pub const LENGTH: usize = 47;
 
 pub const ANSWER: usize = 8;
 
@@ -47,6 +47,7 @@ pub fn sender_in(bytes: &[u8]) -> Sender
         circuits,
         slots: [first, second, third, fourth],
         last: bytes[45],
+        enable: bytes[46],
     }
 }
 
@@ -96,7 +97,7 @@ pub fn put_sender(bytes: &mut [u8], sender: Sender)
     let circuits = sender.circuits;
     let slots = sender.slots;
     let front = circuits_bytes(circuits);
-    let end = [sender.last];
+    let end = [sender.last, sender.enable];
     bits::copy_in(bytes, &front);
     put_slots(bytes, slots);
     bits::copy_at(bytes, 45, &end);

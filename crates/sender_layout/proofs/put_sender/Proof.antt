@@ -1,4 +1,4 @@
--- `sender_layout::put_sender` meets its contract: circuits, slots and the circuit last served are written one behind the other.
+-- `sender_layout::put_sender` meets its contract: circuits, slots, the circuit last served and the enable bits are written one behind the other.
 use borrow.Author.Needs.{needs}
 use Rattle.layout.specs.Layout.{lowBytes, circuitBytes, circuitsBytes}
 use Rattle.sender_layout.specs.SenderBytes.{slotBytes, slotsBytes, senderBytes}

@@ -23,15 +23,18 @@ slot-in-requires-4 c κs = search needs
 shared-slice-read-t9 : tie.Need-shared-slice-read-t9
 shared-slice-read-t9 c = search needs
 
+shared-slice-read-t11 : tie.Need-shared-slice-read-t11
+shared-slice-read-t11 c = search needs
+
 returns : tie.Need-returns
 unfolding senderIn byteAt
 returns c =
     rw (
-      c .before .before .before .before .before .circuits-in .ensures,
-      c .before .before .before .before .slot-in .ensures,
-      c .before .before .before .slot-in2 .ensures,
-      c .before .before .slot-in3 .ensures,
-      c .before .slot-in4 .ensures,
+      c .before .before .before .before .before .before .circuits-in .ensures,
+      c .before .before .before .before .before .slot-in .ensures,
+      c .before .before .before .before .slot-in2 .ensures,
+      c .before .before .before .slot-in3 .ensures,
+      c .before .before .slot-in4 .ensures,
     )
 
 pub sender-in-spec : {M : Type 1} → statement M
@@ -44,4 +47,5 @@ sender-in-spec =
     slot-in-requires-3
     slot-in-requires-4
     shared-slice-read-t9
+    shared-slice-read-t11
     returns)

@@ -20,16 +20,20 @@ returns-3 : tie.Need-returns-3
 unfolding inRange
 returns-3 c = rw (← c .before .before .before .refusal .ensures) (search tests)
 
+returns-4 : tie.Need-returns-4
+unfolding inRange
+returns-4 c = rw (← c .before .before .before .before .before .refusal .ensures) (search tests)
+
 cast-slots-in-range : tie.Need-cast-slots-in-range
 cast-slots-in-range c = search needs
 
 slots-in-range-requires : tie.Need-slots-in-range-requires
 slots-in-range-requires c κs = search needs
 
-returns-4 : tie.Need-returns-4
+returns-5 : tie.Need-returns-5
 unfolding inRange
-returns-4 c =
-    rw (← c .before .before .before .before .before .before .refusal .ensures, c .slots-in-range .ensures)
+returns-5 c =
+    rw (← c .before .before .before .before .before .before .before .before .refusal .ensures, c .slots-in-range .ensures)
     (search tests)
 
 pub in-range-spec : {M : Type 1} → statement M
@@ -40,6 +44,7 @@ in-range-spec =
     refusal-requires
     returns-2
     returns-3
+    returns-4
     cast-slots-in-range
     slots-in-range-requires
-    returns-4)
+    returns-5)

@@ -14,27 +14,29 @@ put-opening-requires c κs =
     before-opening (a .sender) (now (a .store)) (now (a .buf)) (a .n) (a .u)
     (system (a .wanted) (a .enable) (a .code) (now (a .information))) (s .pre)
 
-enable-bits-requires : tie.Need-enable-bits-requires
-enable-bits-requires c κs = search needs
+in-force-requires : tie.Need-in-force-requires
+in-force-requires c κs = search needs
 
 fill-requires : tie.Need-fill-requires
 fill-requires c κs =
-    let opened = c .before .before .before .before in
+    let rules = c .before in
+    let opened = rules .before .before .before in
     let s = opened .before .before .before .before .before in
     let a = s .args in
     before-frames (a .sender) (now (a .store)) (now (a .buf)) (a .n) (a .u)
     (system (a .wanted) (a .enable) (a .code) (now (a .information))) (s .pre) (opened .put-opening .ensures) (opened .put-opening .kept .0)
+    (rules .in-force .ensures (a .code) (now (a .information)))
 
 close-requires : tie.Need-close-requires
 close-requires c κs =
     let f = c .before .before .before in
-    let enable = f .before in
-    let opened = enable .before .before .before .before in
+    let rules = f .before .before in
+    let opened = rules .before .before .before in
     let s = opened .before .before .before .before .before in
     let a = s .args in
     before-closing (a .sender) (now (a .store)) (now (a .buf)) (a .n) (a .u)
     (system (a .wanted) (a .enable) (a .code) (now (a .information))) (s .pre) (opened .put-opening .ensures) (opened .put-opening .kept .0)
-    (enable .enable-bits .ensures (a .code) (now (a .information))) (f .fill .ensures) (f .fill .kept .0)
+    (rules .in-force .ensures (a .code) (now (a .information))) (f .fill .ensures) (f .fill .kept .0)
 
 same-length : tie.Need-same-length
 same-length c = search needs
@@ -43,13 +45,13 @@ returns : tie.Need-returns
 returns c =
     let end = c .before .before .before in
     let f = end .before .before .before .before in
-    let enable = f .before in
-    let opened = enable .before .before .before .before in
+    let rules = f .before .before in
+    let opened = rules .before .before .before in
     let s = opened .before .before .before .before .before in
     let a = s .args in
     BlockCalled-made (a .sender) (now (a .store)) (now (a .buf)) (a .n) (a .u)
     (system (a .wanted) (a .enable) (a .code) (now (a .information))) (s .pre) (opened .put-opening .ensures) (opened .put-opening .kept .0)
-    (enable .enable-bits .ensures (a .code) (now (a .information))) (f .fill .ensures) (f .fill .kept .0) (end .close .ensures)
+    (rules .in-force .ensures (a .code) (now (a .information))) (f .fill .ensures) (f .fill .kept .0) (end .close .ensures)
     (Bytes-each (now (a .buf)) (λ i. opened .before .before .before .slice-known .given i .fits))
     (Bytes-each (end .close .last .0) (λ i. c .before .slice-known4 .given i .fits))
 
@@ -58,7 +60,7 @@ write-block-spec =
     tie.close
     (tie.spec
     put-opening-requires
-    enable-bits-requires
+    in-force-requires
     fill-requires
     close-requires
     same-length

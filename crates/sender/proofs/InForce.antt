@@ -1,0 +1,31 @@
+-- The enable bits in force in an accepted block are at most 15, so the record that it is made from is in range.
+use Prim.Native.Nat.{ℕ, _≤_}
+use mathlib.Core.Bool.{Bool, true, false, cond}
+use mathlib.Core.List.{List}
+use mathlib.Core.Option.{Option, none, some}
+use mathlib.Core.Path.{_≡_, refl}
+use Rattle.offering.specs.declared.Sender.{Sender}
+use Rattle.offering.specs.Record.{inRange}
+use Rattle.offering.proofs.Ranges.{inRange-facts, facts-inRange}
+use Rattle.sender.specs.Blocks.{System, enableBits, inForce, ruled, blockRefusal}
+use Rattle.sender.specs.BlockCalls.{Allowed}
+use Rattle.sender.proofs.BlockRefusals.{Accepted, accepted}
+
+module _ (s : Sender) (store buffer : List ℕ) (n u : ℕ) (y : System) (e : blockRefusal s store buffer n u y ≡ 0) where
+  pub inForce-fits : inForce (s .enable) (enableBits y) ≤ 15
+  unfolding enableBits inForce
+  inForce-fits =
+      let a : Accepted s store buffer n u y = accepted s store buffer n u y e in
+      go (y .wanted) (a .allowed) (inRange-facts s (a .record-in-range) .enable)
+    where
+      go : (w : Bool) → (w ≡ true → Allowed (y .enable) (y .code) (y .information)) → s .enable ≤ 15
+          → inForce (s .enable) (cond w (some (y .enable)) none) ≤ 15
+      go true allowed few = allowed refl .enable
+      go false allowed few = few
+
+  pub ruled-in-range : inRange (ruled s (enableBits y)) ≡ true
+  unfolding ruled
+  ruled-in-range =
+      let f = inRange-facts s (accepted s store buffer n u y e .record-in-range) in
+      facts-inRange (ruled s (enableBits y))
+      (record { count = f .count; circuits = f .circuits; last = f .last; enable = inForce-fits; slots = f .slots })
