@@ -7,7 +7,8 @@
  * are written to a serial line and read from one: that to a telemetry terminal, in the octet-stuffed frames of RFC 1662. These are the functions of
  * the static library libaes18.a for x86-64, which `rt staticlib aes18` proves and writes; docs/PROOFS.md says what is proved of them. Document 01 is
  * the specification: refusals have its numbers, and its words stand in quotation marks. The totals are those of document 02, ask 1; the serial line,
- * with refusals 16 and 17, is that of its ask 3. No document asks for the framing's call; what it reads is what document 01 says of flags and bodies.
+ * with refusals 16 and 17, is that of its ask 3; that enable bits hold over from block to block is its ask 4. No document asks for the framing's call;
+ * what it reads is what document 01 says of flags and bodies.
  *
  * What is lent. Every array is lent as a pointer and its length in bytes, for the time of the call. With length 0 any pointer will do, a null
  * pointer too, and is not followed. An array that a call writes (record, framing, totals, block, the store of an offer and of a read, the line of a
@@ -37,10 +38,11 @@
  *     table 1 are had with a u of 42 bits for each millisecond of the block: 1680 of the 1920 bits of 40 ms at 48 kHz.
  *   Packets in a block [6.3.2.1]. BS.776 has a table of the most packets of a message that a block takes, by priority and block length; where that is
  *     less than one, a rule spreads them over several blocks. Here there is neither: a block takes packets by priority as long as they fit, and
- *     may leave no room to gear behind it. A smaller u, the enable bits and the time of an offer hold packets back.
+ *     may leave no room to gear behind it. A smaller u, the enable bits in force and the time of an offer hold packets back.
  * And this is not covered: messages above 4094 bytes or of unknown length [5.2.1.2], at which a receiver tells WRONG; inserting packets into blocks
  * that are made already [6.3.1]; and the channel status, which has to tell of this use of the user bits [5.2.4.2]. An address extension of a system
- * packet [6.2.1.2] is never sent, and skipped by a receiver.
+ * packet [6.2.1.2] is never sent, and skipped by a receiver. Whether the enable bits of a system packet [6.2.1.1] rule later blocks that have none,
+ * BS.776 does not say; here they do.
  */
 #ifndef AES18_H
 #define AES18_H
@@ -53,7 +55,7 @@ extern "C" {
 #endif
 
 /* Lengths in bytes of what is lent. Records, stores and answers may be longer; the bytes behind are not looked at and keep their values. */
-#define AES18_SENDER_RECORD 46
+#define AES18_SENDER_RECORD 47
 #define AES18_RECEIVER_RECORD 61
 #define AES18_SENDER_STORE 16384
 #define AES18_RECEIVER_STORE 16400
@@ -130,7 +132,7 @@ extern "C" {
  * display it or look into it. It is no storage format, and a later version may lay records out differently; what is worth keeping of a pass is
  * its user bits.
  *
- * The sender's record, 46 bytes:
+ * The sender's record, 47 bytes:
  *   0        number of circuits, 0 to 4
  *   1 to 12  the circuits, as in a list; the places behind the listed ones are 0
  *   13 to 44 for each circuit number 8 bytes:
@@ -143,8 +145,10 @@ extern "C" {
  *            A message of up to 15 bytes has 1 packet, a longer one of n bytes (n + 17) / 16, rounded down. The message has a copy to place as long
  *            as place is below this number, and place is never above it.
  *   45       number of the circuit last served, 0 to 3
- * As listed, every circuit number has 0, 0, 0, 0, 0, 0, 1, 0 (nothing to place), and the circuit last served is 3, so that circuit 0 comes first.
- * The record of no circuits, which a refused listing writes, is 13 times 0, four times 0, 0, 0, 0, 0, 0, 1, 0, and 3.
+ *   46       the enable bits in force, 0 to 15, those of the last system packet sent: priority p is enabled if the bit of value 1 << p is set
+ * As listed, every circuit number has 0, 0, 0, 0, 0, 0, 1, 0 (nothing to place), the circuit last served is 3, so that circuit 0 comes first, and the
+ * enable bits in force are 15: all four priorities are enabled. The record of no circuits, which a refused listing writes, is 13 times 0, four times
+ * 0, 0, 0, 0, 0, 0, 1, 0, then 3 and 15.
  *
  * The receiver's record, 61 bytes:
  *   0 to 12  number of circuits and circuits, as above
@@ -163,7 +167,8 @@ extern "C" {
  * As listed, everything behind the circuits is 0. The record of no circuits is 61 times 0.
  *
  * Out of range, and refused by RECORD, are: more than four circuits, circuits that a listing refuses by ADDRESS, EXTENSION or ALIKE, a number of a
- * listed circuit outside what stands here, a circuit last served above 3, a framing that no bits leave, and 2 or more where a byte is 1 or 0.
+ * listed circuit outside what stands here, a circuit last served above 3, enable bits in force above 15, a framing that no bits leave, and 2 or more
+ * where a byte is 1 or 0.
  *
  * A framing alone, 24 bytes, is that of a receiver's record, its bytes 37 to 60: phase, ones, count, and 21 bytes of bits. A fresh one is 24 times 0,
  * which a caller writes itself. Out of range is one that no bits leave.
@@ -195,7 +200,7 @@ uint32_t aes18_sender_list(uint8_t *record, size_t record_len, const uint8_t *li
 /*
  * Offers a message of 0 to 4094 bytes at a circuit number. It is copied to the start of the circuit's region, so the caller's own is not needed any
  * longer. Its packets wait to be placed in blocks, each once and then as often again as the repetition says. A circuit takes its next message when
- * the last copy of the one before is placed.
+ * the last copy of the one before is placed. A message is taken whether its priority is enabled or not; while it is not, its packets wait.
  * Refusals, in order: SHORT, RECORD, STORE, CIRCUIT, PRIORITY, REPETITION, MESSAGE, PENDING.
  */
 uint32_t aes18_sender_offer(uint8_t *record, size_t record_len, uint8_t *store, size_t store_len, uint64_t circuit, uint64_t priority,
@@ -204,9 +209,13 @@ uint32_t aes18_sender_offer(uint8_t *record, size_t record_len, uint8_t *store, 
 /*
  * Makes a block of n user bits, of which the first u may be used, and writes it to the (n + 7) / 8 first bytes of `block`. Spare bits of the last
  * of them are 0; bytes behind it keep their values. In the block are a flag, the system packet's frame and a flag if one is wanted, then frames of
- * waiting packets by priority, each with a flag after it, as long as they do not pass u, and ones up to n.
- * `system` is 0 for no system packet; then enable, code and info are not looked at and all priorities may be sent. Any other number asks for one
- * with these enable bits (1 << p enables priority p, in this block), this block code and these information bytes.
+ * packets that wait and whose priority is enabled, the highest first, each with a flag after it, as long as they do not pass u, and ones up to n.
+ * `system` is 0 for no system packet; then enable, code and info are not looked at, and the enable bits in force stay. Any other number asks for one
+ * with these enable bits (1 << p enables priority p), this block code and these information bytes. Its enable bits are in force from then on: they
+ * rule this block and all later ones, until another system packet is sent. A fresh sender has all four priorities enabled. Packets whose priority is
+ * not enabled wait, with enable bits 0 all of them, for as many blocks as are made, until a system packet enables them: one with AES18_ALL_ENABLED
+ * enables all. Only an accepted block with a system packet changes the enable bits in force; offers and refused blocks do not. A panel may read them
+ * at byte AES18_SENDER_ENABLE of the record.
  * The answer, 8 bytes, is two numbers of 4 bytes each: the frames placed, without the system packet's, and the bits used, which are those before
  * the closing ones.
  * Refusals, in order: SHORT, RECORD, STORE, BLOCK, BUFFER, SYSTEM.
@@ -215,9 +224,10 @@ uint32_t aes18_sender_block(uint8_t *record, size_t record_len, const uint8_t *s
                             uint64_t enable, uint64_t code, const uint8_t *info, size_t info_len, uint8_t *block, size_t block_len, uint8_t *answer,
                             size_t answer_len);
 
-/* Where the numbers stand in a block's answer. */
+/* Where the numbers stand in a block's answer, and where a sender's record has the enable bits in force. */
 #define AES18_BLOCK_PLACED 0
 #define AES18_BLOCK_USED 4
+#define AES18_SENDER_ENABLE 46
 
 /*
  * Makes a receiver: writes the record for the circuits of the list. The refusals are those of aes18_sender_list; a refused listing writes the

@@ -240,7 +240,7 @@ static const uint8_t two_circuits[] = {0x01, 0, 0, 0x02, 1, 0x07};
 static const uint8_t two_listed[13] = {2, 0x01, 0, 0, 0x02, 1, 0x07};
 
 #define FRESH_SLOT 0, 0, 0, 0, 0, 0, 1, 0
-static const uint8_t no_sender[AES18_SENDER_RECORD] = {0, 0, 0, 0, 0, 0, 0, 0, 0, 0, 0, 0, 0, FRESH_SLOT, FRESH_SLOT, FRESH_SLOT, FRESH_SLOT, 3};
+static const uint8_t no_sender[AES18_SENDER_RECORD] = {0, 0, 0, 0, 0, 0, 0, 0, 0, 0, 0, 0, 0, FRESH_SLOT, FRESH_SLOT, FRESH_SLOT, FRESH_SLOT, 3, 15};
 static const uint8_t no_receiver[AES18_RECEIVER_RECORD] = {0};
 
 static const struct {
@@ -400,13 +400,14 @@ static void test_empty_block(void)
     CALL(&c, &block, AES18_ACCEPTED);
     EQUAL(c.bytes[ANSWER], empty, sizeof empty);
     ALL(c.bytes[ANSWER] + AES18_BLOCK_ANSWER, OLD, 3);
+    EQUAL(c.bytes[RECORD] + sizeof two_listed, no_sender + sizeof two_listed, AES18_SENDER_RECORD - sizeof two_listed);
     IS(c.bytes[BLOCK][0], 0x7E);
     ALL(c.bytes[BLOCK] + 1, 0xFF, 31);
     IS(c.bytes[BLOCK][32], 0x01);
     ALL(c.bytes[BLOCK] + 33, OLD, 2);
 }
 
-/* Every number but 0 asks for a system packet, and its enable bits rule the block. */
+/* Every number but 0 asks for a system packet, and its enable bits rule its own block. */
 static void test_system(void)
 {
     static const uint64_t wanted[] = {1, 256, 65536, 4294967296u, UINT64_MAX};
@@ -476,7 +477,7 @@ static const struct outside senders_outside[] = {
     {13, {8}, 1}, {21, {8}, 1}, {14, {4}, 1}, {15, {6}, 1},         /* index, priority, repetition */
     {16, {1}, 1}, {24, {1}, 1},                                     /* copy above the repetition */
     {17, {0xFF, 0x0F}, 2}, {19, {2}, 1}, {20, {1}, 1},              /* length, place past the message's end */
-    {45, {4}, 1},                                                   /* last served */
+    {45, {4}, 1}, {46, {16}, 1}, {46, {255}, 1},                    /* last served, enable bits in force */
 };
 
 static const struct outside receivers_outside[] = {
@@ -1086,6 +1087,147 @@ static void test_pass(uint64_t n)
     IS(r.bytes[STORE][AES18_RECEIVER_STORE - 1], OLD);
 }
 
+/* Where a packet waits, of messages of no bytes at four circuits: the bit of value 1 << c is set for circuit c. */
+static unsigned waiting(const struct call *c)
+{
+    unsigned circuits = 0;
+    size_t i;
+
+    for (i = 0; i < AES18_MOST_CIRCUITS; i++)
+        circuits |= (unsigned)(c->bytes[RECORD][13 + 8 * i + 6] == 0) << i;
+    return circuits;
+}
+
+/* Offers a message of no bytes at each of four circuits, with the circuit's number for its priority; refused where one waits. */
+static void offer_each(int line, struct call *c)
+{
+    unsigned pending = waiting(c);
+
+    c->length[INPUT] = c->repetition = 0;
+    for (c->circuit = 0; c->circuit < AES18_MOST_CIRCUITS; c->circuit++) {
+        c->priority = c->circuit;
+        is(line, call(line, c, &offer), pending >> c->circuit & 1 ? AES18_REFUSED_PENDING : AES18_ACCEPTED);
+    }
+}
+
+/* Offers at each circuit and makes a block: it is ruled by these enable bits, and they are in force behind it. */
+static void ruled(int line, struct call *c, uint64_t enable)
+{
+    offer_each(line, c);
+    is(line, call(line, c, &block), AES18_ACCEPTED);
+    is(line, waiting(c), AES18_ALL_ENABLED - enable);
+    is(line, c->bytes[RECORD][AES18_SENDER_ENABLE], enable);
+}
+
+#define RULED(c, enable) ruled(__LINE__, c, enable)
+
+/* A fresh sender of four circuits, ready to make blocks with room for a packet of each. */
+static void prepare_ruled(struct call *c)
+{
+    prepare_listed(c, &list_sender, &block, four_circuits, sizeof four_circuits);
+    c->n = c->u = 512;
+    c->length[BLOCK] = 64;
+    c->system = c->enable = c->code = 0;
+}
+
+/* All is enabled at first. Enable bits rule the block of their system packet and later ones, whatever is given without one, until another is sent. */
+static void test_enable(void)
+{
+    static struct call c;
+    uint64_t enable;
+
+    prepare_ruled(&c);
+    RULED(&c, AES18_ALL_ENABLED);
+    for (enable = 0; enable <= AES18_ALL_ENABLED; enable++) {
+        c.system = 1;
+        c.enable = enable;
+        RULED(&c, enable);
+        c.system = 0;
+        RULED(&c, enable);
+        c.enable = AES18_ALL_ENABLED - enable;
+        RULED(&c, enable);
+        c.enable = UINT64_MAX;
+        RULED(&c, enable);
+    }
+}
+
+/* With enable bits 0 block after block is a flag and ones, and nothing in the record changes. The next system packet lets out what waits. */
+static void test_none_enabled(void)
+{
+    static struct call c;
+    uint8_t before[AES18_SENDER_RECORD];
+    int i;
+
+    prepare_ruled(&c);
+    c.system = 1;
+    RULED(&c, 0);
+    memcpy(before, c.bytes[RECORD], sizeof before);
+    c.system = 0;
+    for (i = 0; i < 20; i++) {
+        CALL(&c, &block, AES18_ACCEPTED);
+        IS(number(c.bytes[ANSWER] + AES18_BLOCK_PLACED, 4), 0);
+        IS(number(c.bytes[ANSWER] + AES18_BLOCK_USED, 4), 8);
+        ALL(c.bytes[BLOCK] + 1, 0xFF, 63);
+        EQUAL(c.bytes[RECORD], before, sizeof before);
+    }
+    c.system = 1;
+    c.enable = AES18_ALL_ENABLED;
+    CALL(&c, &block, AES18_ACCEPTED);
+    IS(number(c.bytes[ANSWER] + AES18_BLOCK_PLACED, 4), AES18_MOST_CIRCUITS);
+    IS(waiting(&c), 0);
+}
+
+/* A refused block with other enable bits leaves those in force, as CALL compares. */
+static void test_enable_refused(void)
+{
+    static struct call c;
+
+    prepare_ruled(&c);
+    c.system = 1;
+    c.enable = 10;
+    RULED(&c, 10);
+    c.enable = 5;
+    c.length[RECORD] = AES18_SENDER_ENABLE;
+    CALL(&c, &offer, AES18_REFUSED_SHORT);
+    CALL(&c, &block, AES18_REFUSED_SHORT);
+    c.length[RECORD] = AES18_SENDER_ENABLE + 1;
+    c.length[STORE]--;
+    CALL(&c, &block, AES18_REFUSED_STORE);
+    c.length[STORE]++;
+    c.u = AES18_FEWEST_BLOCK_BITS - 1;
+    CALL(&c, &block, AES18_REFUSED_BLOCK);
+    c.u = c.n;
+    c.length[BLOCK]--;
+    CALL(&c, &block, AES18_REFUSED_BUFFER);
+    c.length[BLOCK]++;
+    c.code = AES18_HIGHEST_CODE + 1;
+    CALL(&c, &block, AES18_REFUSED_SYSTEM);
+    c.code = 0;
+    c.length[INPUT] = AES18_LONGEST_INFORMATION + 1;
+    CALL(&c, &block, AES18_REFUSED_SYSTEM);
+    c.system = 0;
+    RULED(&c, 10);
+}
+
+/* Enable bits in force above 15 are out of range, with this number of circuits. In range, a block is accepted and an offer is answered so. */
+static void test_enable_range(uint8_t circuits, uint32_t offered)
+{
+    static const uint8_t enable[] = {0, 15, 16, 17, 31, 128, 255};
+    static struct call c;
+    size_t i;
+
+    for (i = 0; i < COUNT(enable); i++) {
+        prepare_ruled(&c);
+        c.bytes[RECORD][0] = circuits;
+        c.bytes[RECORD][AES18_SENDER_ENABLE] = enable[i];
+        c.circuit = c.priority = c.repetition = 0;
+        c.length[INPUT] = 0;
+        CALL(&c, &offer, enable[i] > AES18_ALL_ENABLED ? AES18_REFUSED_RECORD : offered);
+        CALL(&c, &block, enable[i] > AES18_ALL_ENABLED ? AES18_REFUSED_RECORD : AES18_ACCEPTED);
+        IS(c.bytes[RECORD][AES18_SENDER_ENABLE], enable[i]);
+    }
+}
+
 /* The worst case of a packet's frame. */
 static size_t worst_frame(size_t packet)
 {
@@ -1468,6 +1610,12 @@ static void test_all(uint8_t *place)
     test_pass(AES18_FEWEST_BLOCK_BITS);
     test_pass(1003);
     test_pass(AES18_MOST_BLOCK_BITS);
+    test_enable();
+    test_none_enabled();
+    test_enable_refused();
+    test_enable_range(0, AES18_REFUSED_CIRCUIT);
+    test_enable_range(1, AES18_ACCEPTED);
+    test_enable_range(4, AES18_ACCEPTED);
     test_line_frames();
     test_line_write_refusals();
     test_line_cut(0);

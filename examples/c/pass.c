@@ -52,11 +52,15 @@ static uint64_t number(const uint8_t *bytes, size_t size)
     return value;
 }
 
-/* Makes the blocks, one behind the other, and offers the messages of each before it is made. */
+/*
+ * Makes the blocks, one behind the other, and offers the messages of each before it is made. The system packet of the first block enables the priorities
+ * of the two circuits and no others, in that block and in the later ones.
+ */
 static void make_blocks(uint8_t *bits)
 {
     static uint8_t store[AES18_SENDER_STORE];
     static const uint8_t info[] = {'p', 'a', 's', 's', ' ', '1', '7'};
+    const uint64_t enable = 1u << priority[0] | 1u << priority[1];
     uint8_t record[AES18_SENDER_RECORD], answer[AES18_BLOCK_ANSWER];
     size_t b, c;
 
@@ -67,10 +71,11 @@ static void make_blocks(uint8_t *bits)
                   aes18_sender_offer(record, sizeof record, store, sizeof store, c, priority[c], repetition[c],
                                      (const uint8_t *)messages[b][c], strlen(messages[b][c])));
         check("block making",
-              aes18_sender_block(record, sizeof record, store, sizeof store, BLOCK_BITS, USABLE_BITS, b == 0, AES18_ALL_ENABLED, 1, info,
-                                 sizeof info, bits + b * BLOCK_BYTES, BLOCK_BYTES, answer, sizeof answer));
-        printf("block %lu: %lu frames, %lu bits used\n", (unsigned long)b, (unsigned long)number(answer + AES18_BLOCK_PLACED, 4),
-               (unsigned long)number(answer + AES18_BLOCK_USED, 4));
+              aes18_sender_block(record, sizeof record, store, sizeof store, BLOCK_BITS, USABLE_BITS, b == 0, enable, 1, info, sizeof info,
+                                 bits + b * BLOCK_BYTES, BLOCK_BYTES, answer, sizeof answer));
+        printf("block %lu: %lu frames, %lu bits used, enable bits in force %u\n", (unsigned long)b,
+               (unsigned long)number(answer + AES18_BLOCK_PLACED, 4), (unsigned long)number(answer + AES18_BLOCK_USED, 4),
+               record[AES18_SENDER_ENABLE]);
     }
 }
 
