@@ -33,7 +33,8 @@ extern "C" {
     ) -> u32;
 
     /// Makes a block of `n` user bits of which `u` may be used. `system` is 0 for no system packet; `enable`, `code` and `info` are then not looked
-    /// at. The answer, 8 bytes: frames placed, bits used, each 4 bytes lowest first.
+    /// at, and the enable bits in force, byte 46 of the record, stay. Else `enable` is in force, in this block and all later ones until another system
+    /// packet. The answer, 8 bytes: frames placed, bits used, each 4 bytes lowest first.
     pub fn aes18_sender_block(
         record: *mut u8,
         record_len: usize,

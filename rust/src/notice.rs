@@ -13,7 +13,8 @@ pub enum Notice {
     Malformed,
     /// A system packet. Its information stands in the store, see [`Notice::information`].
     System {
-        /// Which priorities are enabled: bit 3 for priority 3 down to bit 0 for priority 0.
+        /// Which priorities are enabled, in its block and in all later ones until another system packet is sent: bit 3 for priority 3 down to bit 0
+        /// for priority 0.
         enable: u8,
         /// The block code, 0 to 8.
         code: u8,

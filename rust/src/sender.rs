@@ -6,9 +6,9 @@ use crate::lengths::SENDER_RECORD;
 use crate::refusal::Refusal;
 use crate::system::SystemPacket;
 
-/// A sender: the circuits it lists, and what waits to be sent there.
+/// A sender: the circuits it lists, what waits to be sent there, and the enable bits in force.
 ///
-/// It is a value of 46 bytes; a copy of it is a sender of its own, with a store of its own.
+/// It is a value of 47 bytes; a copy of it is a sender of its own, with a store of its own.
 ///
 /// ```
 /// use aes18::{Circuit, Sender, SENDER_STORE};
@@ -47,7 +47,7 @@ pub struct Block {
 }
 
 impl Sender {
-    /// A fresh sender for one to four circuits, numbered from 0 in their order.
+    /// A fresh sender for one to four circuits, numbered from 0 in their order. All four priorities are enabled.
     ///
     /// # Errors
     ///
@@ -59,7 +59,8 @@ impl Sender {
     }
 
     /// Takes a message of up to 4,094 bytes, to be sent at the circuit of that number with a priority of 0 to 3, 3 the highest. A repetition of 0
-    /// to 5 gives that many copies of each packet after the original. The message is copied to the start of the circuit's region of the store.
+    /// to 5 gives that many copies of each packet after the original. The message is copied to the start of the circuit's region of the store. It is
+    /// taken whether its priority is enabled or not, and waits while it is not.
     ///
     /// # Errors
     ///
@@ -83,7 +84,8 @@ impl Sender {
     }
 
     /// Writes the next block, of `n` user bits of which `u` may be used, to the start of `block`: a flag, the system packet where one is given,
-    /// frames of what waits, then ones. Bits fill bytes lowest first; spare bits of the last byte are 0, and bytes behind it keep their values.
+    /// frames of what waits at the enabled priorities, then ones. Bits fill bytes lowest first; spare bits of the last byte are 0, and bytes behind it
+    /// keep their values. The system packet's enable bits rule this block and all later ones, until another is sent; without one those in force stay.
     ///
     /// # Errors
     ///
@@ -113,6 +115,35 @@ impl Sender {
         slots.nth(circuit).map_or(0, waiting_in)
     }
 
+    /// The enable bits in force: bit 3 for priority 3 down to bit 0 for priority 0. They are those of the last system packet sent, or all four if none
+    /// was. Only an accepted block with a system packet changes them.
+    ///
+    /// ```
+    /// use aes18::{Circuit, Sender, SystemPacket, SENDER_STORE};
+    ///
+    /// # fn main() -> Result<(), aes18::Refusal> {
+    /// let mut store = [0; SENDER_STORE];
+    /// let mut bits = [0; 32];
+    /// let mut sender = Sender::list(&[Circuit { address: 0x10, extension: None }])?;
+    /// assert_eq!(sender.enable(), 0b1111);
+    /// sender.offer(&mut store, 0, 1, 0, b"charge 71%")?;
+    ///
+    /// // Priority 3 alone is enabled from here on: the message, of priority 1, waits in this block and in the next.
+    /// let high = SystemPacket { enable: 0b1000, code: 2, information: &[] };
+    /// assert_eq!(sender.block(&store, 256, 256, Some(high), &mut bits)?.placed, 0);
+    /// assert_eq!(sender.block(&store, 256, 256, None, &mut bits)?.placed, 0);
+    /// assert_eq!(sender.enable(), 0b1000);
+    ///
+    /// // The next system packet enables all.
+    /// let all = SystemPacket { enable: SystemPacket::ALL_ENABLED, ..high };
+    /// assert_eq!(sender.block(&store, 256, 256, Some(all), &mut bits)?.placed, 1);
+    /// # Ok(())
+    /// # }
+    /// ```
+    pub fn enable(&self) -> u8 {
+        self.record[ENABLE]
+    }
+
     /// The record's bytes. Their layout is no storage format: a later version may have another.
     pub fn as_bytes(&self) -> &[u8; SENDER_RECORD] {
         &self.record
@@ -128,6 +159,8 @@ impl Sender {
 /// its bytes 6 and 7 the packets of it of which every copy is placed, lowest byte first.
 const SLOTS: usize = 13;
 const SLOT: usize = 8;
+/// The record's byte that holds the enable bits in force.
+const ENABLE: usize = 46;
 
 /// The packets of a slot's message that wait: those the message has, less those placed.
 fn waiting_in(slot: &[u8]) -> usize {

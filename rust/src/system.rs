@@ -21,10 +21,16 @@
 /// ```
 #[derive(Clone, Copy, Debug, Default, PartialEq, Eq)]
 pub struct SystemPacket<'a> {
-    /// Which priorities its block may carry: bit 3 for priority 3 down to bit 0 for priority 0. A block without a system packet enables all.
+    /// Which priorities are enabled, in its block and in all later ones until another system packet is sent: bit 3 for priority 3 down to bit 0 for
+    /// priority 0. What is not enabled waits; 0, the default, holds everything back.
     pub enable: u64,
     /// The block code, 0 to 8.
     pub code: u64,
     /// 0 to 15 bytes of information.
     pub information: &'a [u8],
+}
+
+impl SystemPacket<'_> {
+    /// The enable bits of all four priorities, which a fresh sender has in force.
+    pub const ALL_ENABLED: u64 = 0b1111;
 }

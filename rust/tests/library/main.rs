@@ -1,6 +1,7 @@
-//! The library through its safe types: every refusal that they can meet, every notice, a pass cut at every bit, open messages, totals, the
-//! framing alone, and the serial line.
+//! The library through its safe types: every refusal that they can meet, every notice, a pass cut at every bit, the enable bits in force, open
+//! messages, totals, the framing alone, and the serial line.
 
+mod enabling;
 mod frames;
 mod framing;
 mod line;
