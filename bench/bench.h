@@ -52,7 +52,7 @@ struct plain_line_answer {
     uint64_t packet, bytes;
 };
 
-/* A system packet; a block call is given a null pointer where none is wanted. */
+/* A system packet; a block call is given a null pointer where none is wanted, and then the enable bits in force stay. */
 struct plain_system {
     uint64_t enable, code;
     const uint8_t *info;

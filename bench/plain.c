@@ -5,7 +5,7 @@
 
 enum { CIRCUITS = 4, REGION = 4096, SYSTEM_PLACE = CIRCUITS * REGION, LONGEST = 4094, SEGMENT = 16 };
 enum { SENDER_STORE = CIRCUITS * REGION, RECEIVER_STORE = SYSTEM_PLACE + 16 };
-enum { FLAG = 0x7e, SYSTEM_ADDRESS = 0xff, FCS_PRESET = 0xffff, FCS_GOOD = 0xf0b8 };
+enum { FLAG = 0x7e, SYSTEM_ADDRESS = 0xff, ALL_ENABLED = 15, FCS_PRESET = 0xffff, FCS_GOOD = 0xf0b8 };
 enum link { BETWEEN, LAST, FIRST, SYSTEM_LINK };
 
 /* ---- both ends: circuits and the FCS */
@@ -155,10 +155,11 @@ struct sending {
     uint16_t length, place;
 };
 
+/* `enable` are the enable bits in force. */
 struct plain_sender {
     struct circuits circuits;
     struct sending slots[CIRCUITS];
-    uint8_t last_served;
+    uint8_t last_served, enable;
 };
 
 const size_t plain_sender_size = sizeof(struct plain_sender);
@@ -180,7 +181,7 @@ static int pending(const struct sending *t)
 
 static int sender_in_range(const struct plain_sender *s)
 {
-    if (!circuits_in_range(&s->circuits) || s->last_served >= CIRCUITS)
+    if (!circuits_in_range(&s->circuits) || s->last_served >= CIRCUITS || s->enable > ALL_ENABLED)
         return 0;
     for (unsigned i = 0; i < s->circuits.count; i++) {
         const struct sending *t = &s->slots[i];
@@ -213,13 +214,13 @@ static void put_packet(struct pen *p, const struct circuit *c, const struct send
 }
 
 /* The circuit of the next frame, or -1. */
-static int pick(const struct plain_sender *s, unsigned enable)
+static int pick(const struct plain_sender *s)
 {
     int picked = -1;
     for (unsigned step = 1; step <= CIRCUITS; step++) {
         unsigned i = (s->last_served + step) % CIRCUITS;
         const struct sending *t = &s->slots[i];
-        if (i < s->circuits.count && pending(t) && enable >> t->priority & 1
+        if (i < s->circuits.count && pending(t) && s->enable >> t->priority & 1
             && (picked < 0 || t->priority > s->slots[picked].priority))
             picked = (int)i;
     }
@@ -240,11 +241,11 @@ static void serve(struct plain_sender *s, int i)
 }
 
 /* Frames up to bit u: how many. The one that passes u is taken back. */
-static uint32_t fill(struct plain_sender *s, const uint8_t *store, struct pen *p, size_t u, unsigned enable)
+static uint32_t fill(struct plain_sender *s, const uint8_t *store, struct pen *p, size_t u)
 {
     uint32_t placed = 0;
     int i;
-    while ((i = pick(s, enable)) >= 0) {
+    while ((i = pick(s)) >= 0) {
         struct pen before = *p;
         put_packet(p, &s->circuits.list[i], &s->slots[i], store + REGION * i);
         if (p->at > u) {
@@ -263,6 +264,7 @@ uint32_t plain_sender_list(struct plain_sender *s, const uint8_t *list, size_t l
     for (int i = 0; i < CIRCUITS; i++)
         s->slots[i].place = 1;
     s->last_served = CIRCUITS - 1;
+    s->enable = ALL_ENABLED;
     return list_circuits(&s->circuits, list, list_len);
 }
 
@@ -302,7 +304,7 @@ static uint32_t block_refusal(const struct plain_sender *s, size_t store_len, ui
         return 11;
     if (block_len < (n + 7) / 8)
         return 12;
-    if (system && (system->enable > 15 || system->code > 8 || system->info_len > 15))
+    if (system && (system->enable > ALL_ENABLED || system->code > 8 || system->info_len > 15))
         return 13;
     return 0;
 }
@@ -319,8 +321,9 @@ uint32_t plain_sender_block(struct plain_sender *s, const uint8_t *store, size_t
         uint8_t head[3] = {SYSTEM_ADDRESS, (uint8_t)(SYSTEM_LINK << 6 | system->enable),
                            (uint8_t)(system->code << 4 | system->info_len)};
         put_frame(&p, head, 3, system->info, system->info_len);
+        s->enable = (uint8_t)system->enable;
     }
-    answer->placed = fill(s, store, &p, u, system ? (unsigned)system->enable : 15);
+    answer->placed = fill(s, store, &p, u);
     answer->used = (uint32_t)p.at;
     put_rest(&p, n);
     return 0;

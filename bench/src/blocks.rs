@@ -9,8 +9,11 @@ use aes18::{SystemPacket, LONGEST_MESSAGE, SENDER_STORE};
 const STILL_WAITING: u32 = 10;
 /// Four circuits, one with an extension.
 const CIRCUITS: [u8; 12] = [1, 0, 0, 2, 1, 7, 3, 0, 0, 4, 0, 0];
+/// Enable bits, one after the other in force. The telemetry has priorities 3 and 1.
+const ENABLED: [u64; 10] = [15, 8, 15, 2, 10, 0, 2, 7, 8, 15];
 
 /// A circuit's messages, offered in order and then from the first again.
+#[derive(Clone)]
 struct Circuit {
     priority: u64,
     repetition: u64,
@@ -20,8 +23,10 @@ struct Circuit {
 /// Before each block every circuit is offered its next message; one that is refused because the circuit is not done is offered again.
 pub struct Traffic {
     circuits: Vec<Circuit>,
-    ask: Ask<'static>,
-    blocks: usize,
+    /// The bits of a block.
+    n: u64,
+    /// The system packet of each block, where it has one.
+    systems: Vec<Option<SystemPacket<'static>>>,
 }
 
 impl Traffic {
@@ -33,18 +38,21 @@ impl Traffic {
             repetition,
             messages: (0..100).map(|_| noise.telemetry(length)).collect(),
         };
-        let system = SystemPacket {
-            enable: 15,
-            code: 4,
-            information: b"25 fps",
-        };
+        let system = system(SystemPacket::ALL_ENABLED);
         Traffic {
             circuits: circuits.map(circuit).into(),
-            ask: Ask {
-                n: 1920,
-                system: Some(system),
-            },
-            blocks: 100,
+            n: 1920,
+            systems: vec![Some(system); 100],
+        }
+    }
+
+    /// The same with a system packet in every tenth block alone, whose enable bits hold over.
+    fn changing(&self) -> Traffic {
+        let at = |block: usize| (block % 10 == 0).then(|| system(ENABLED[block / 10]));
+        Traffic {
+            circuits: self.circuits.clone(),
+            n: self.n,
+            systems: (0..10 * ENABLED.len()).map(at).collect(),
         }
     }
 
@@ -57,11 +65,8 @@ impl Traffic {
         };
         Traffic {
             circuits: (0..4).map(circuit).collect(),
-            ask: Ask {
-                n: 27_000,
-                system: None,
-            },
-            blocks: 8,
+            n: 27_000,
+            systems: vec![None; 8],
         }
     }
 
@@ -69,12 +74,18 @@ impl Traffic {
     pub fn idle() -> Traffic {
         Traffic {
             circuits: vec![],
-            ask: Ask {
-                n: 1920,
-                system: None,
-            },
-            blocks: 100,
+            n: 1920,
+            systems: vec![None; 100],
         }
+    }
+}
+
+/// A system packet as the telemetry has it.
+fn system(enable: u64) -> SystemPacket<'static> {
+    SystemPacket {
+        enable,
+        code: 4,
+        information: b"25 fps",
     }
 }
 
@@ -102,14 +113,16 @@ impl Default for Made {
 pub fn make<S: Side>(traffic: &Traffic, made: &mut Made) -> Result<(), u32> {
     let mut sender = S::Sender::default();
     sender.list(&CIRCUITS)?;
-    let block_length = traffic.ask.n as usize / 8;
-    made.blocks.resize(traffic.blocks * block_length, 0);
+    let block_length = traffic.n as usize / 8;
+    made.blocks.resize(traffic.systems.len() * block_length, 0);
     made.answers.clear();
     made.accepted.clear();
     made.accepted.resize(traffic.circuits.len(), 0);
-    for block in made.blocks.chunks_exact_mut(block_length) {
+    let n = traffic.n;
+    let blocks = made.blocks.chunks_exact_mut(block_length);
+    for (block, &system) in blocks.zip(&traffic.systems) {
         offer_all(&mut sender, traffic, &mut made.store, &mut made.accepted)?;
-        let answer = sender.block(&made.store, traffic.ask, block)?;
+        let answer = sender.block(&made.store, Ask { n, system }, block)?;
         made.answers.push(answer);
     }
     Ok(())
@@ -139,17 +152,17 @@ fn offer_all(
 }
 
 /// The races of block making.
-pub fn races(noise: &mut Noise) -> [Race<Traffic, Made>; 3] {
+pub fn races(noise: &mut Noise) -> [Race<Traffic, Made>; 4] {
     let race = |name, traffic: Traffic| {
-        let bits = traffic.ask.n * traffic.blocks as u64;
+        let bits = traffic.n * traffic.systems.len() as u64;
         let turns = [make::<Library>, make::<Plain>, make::<Reference>];
         Race::new(name, traffic, bits, turns)
     };
+    let telemetry = Traffic::telemetry(noise);
+    let changing = telemetry.changing();
     [
-        race(
-            "telemetry, copies, system packets",
-            Traffic::telemetry(noise),
-        ),
+        race("telemetry, copies, system packets", telemetry),
+        race("telemetry, enable bits that change", changing),
         race(
             "long messages, random",
             Traffic::long(|length| noise.bytes(length)),
