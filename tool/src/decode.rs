@@ -77,8 +77,11 @@ number, from 0, of the first bit behind the closing flag; then
         Whole   it completes the message, which is handed over
         Orphan  it goes on with a message, and none is open
         Wrong   it does not fit the message's length
-  System, enable bits 15, code 2, length 6: "sunlit"
-        a system packet with its information
+  System, enable bits 5 (priorities 0 and 2), code 2, length 6: "sunlit"
+        a system packet with the priorities that it enables, in its block and
+        all later ones until another system packet, and its information. Which
+        are enabled before the first that is told, or behind one that is lost,
+        is not known.
   Spoilt       a damaged frame
   Malformed    a frame that is no packet such as a sender makes
   Elsewhere, 7E
@@ -120,17 +123,17 @@ wrong ones. Lost, messages, bytes and orphans stop at
 end of the file is named, with how much of it has come and the place of its
 notice Begun.
 
-With --json a notice has the members bit and notice; System enable and code; a
-circuit's number, circuit, loss and fate, and where they apply modulo8 (true)
-with gap_bits, and dropped (true); Elsewhere circuit; Whole and System also
-length, hex and, if it is printable text, text; and with --messages file. A
-stretch in no frame has the one member gap: from, to, which is the bit behind
-the last, bits and, where it applies, before_first_flag (true). The last object
-has the one member totals, with bits, before (the first flag), gaps, gap_bits
-and modulo8 (places), the figures of the circuits, the messages that are open,
-and what is untraced. Without --circuits the first object has the one member
-listening, with the members to and not, in each a list of circuits as objects
-with the members circuit and packets.
+With --json a notice has the members bit and notice; System enable, priorities
+(a list of those enabled) and code; a circuit's number, circuit, loss and fate,
+and where they apply modulo8 (true) with gap_bits, and dropped (true); Elsewhere
+circuit; Whole and System also length, hex and, if it is printable text, text;
+and with --messages file. A stretch in no frame has the one member gap: from,
+to, which is the bit behind the last, bits and, where it applies,
+before_first_flag (true). The last object has the one member totals, with bits,
+before (the first flag), gaps, gap_bits and modulo8 (places), the figures of the
+circuits, the messages that are open, and what is untraced. Without --circuits
+the first object has the one member listening, with the members to and not, in
+each a list of circuits as objects with the members circuit and packets.
 
 A capture (iec958) has words of 32 bits, the lowest byte first, left and right
 in turn, and no header. The user bit is bit 29 of a word. Which channel a word

@@ -50,7 +50,11 @@ what stands behind a # are skipped.
         packet after its original.
   block N U [system ENABLE CODE [INFORMATION]]
         Make a block of N user bits of which U may be used, in front a system
-        packet if one is asked for: enable bits 0 to 15, block code 0 to 8.
+        packet if one is asked for: enable bits 0 to 15, block code 0 to 8. The
+        enable bits are the sum of 1, 2, 4 and 8 for the priorities 0 to 3 that
+        are enabled. They rule this block and all later ones until another
+        system packet; before the first all four are enabled. A message whose
+        priority is not enabled waits, and its circuit takes no other.
 
 MESSAGE and INFORMATION are hex digits in pairs, "text" with the escapes \" \\
 \n \t \xHH, @file or @"file" with a name that starts at the plan's folder, or -
@@ -64,7 +68,10 @@ for no bytes. Numbers are decimal, or hex behind 0x.
 
 BITS gets the user bits of all blocks, joined bit by bit; where they are packed
 into bytes, up to seven 0 bits fill the last one. Where anything is wrong
-nothing is written. What was made is told on the standard error.
+nothing is written. What was made is told on the standard error: each block,
+with the enable bits in force where they are not 15; then the sums, and the
+enable bits in force behind the last block. A warning names each circuit where
+packets wait still, for a later block or because their priority is not enabled.
 
 A capture (iec958) is in ALSA's format IEC958_SUBFRAME_LE, without a header:
 words of 32 bits, the lowest byte first, left and right in turn. In each are the
@@ -165,10 +172,10 @@ fn write(plan: &Plan, mut filing: Filing, draft: &mut Draft) -> Result<String, E
     let failed = |error: io::Error| Error::file(&name, &error);
     let mut write = |bytes: &[u8]| draft.write_all(bytes).map_err(failed);
     let mut summary = Summary::default();
-    let sender = send(plan, |made| {
+    let sending = send(plan, |made| {
         summary.block(plan, &made);
         filing.put(made.bytes, made.n, &mut write)
     })?;
     let rest = filing.end(&mut write)?;
-    Ok(summary.end(plan, &sender) + &rest)
+    Ok(summary.end(plan, &sending) + &rest)
 }

@@ -7,6 +7,7 @@ mod args;
 mod circuits;
 mod decode;
 mod draft;
+mod enable;
 mod encode;
 mod error;
 mod extents;

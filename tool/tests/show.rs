@@ -445,6 +445,8 @@ fn svg() {
         "two marks and the legend's"
     );
     assert_eq!(svg.matches("<g ").count(), 9, "nine rows");
+    let system = ": System, enable bits 15 (all priorities), code 1, length 3</title>";
+    assert_eq!(svg.matches(system).count(), 1);
     let title = "<title>block 2, bits 520 to 687: Spoilt</title>";
     assert_eq!(svg.matches(title).count(), 1);
     assert!(svg.contains(">1 lost of 02:07</text>"));

@@ -5,6 +5,7 @@ use std::fmt::{self, Display, Formatter};
 use aes18::{Circuit, Fate, Notice};
 
 use super::{Account, Heard, Unfinished, Unit};
+use crate::enable::EnableBits;
 use crate::gaps::Gap;
 use crate::output::count;
 
@@ -38,10 +39,13 @@ impl Display for NoticeWords<'_> {
                 enable,
                 code,
                 length,
-            } => write!(
-                f,
-                "System, enable bits {enable}, code {code}, length {length}"
-            ),
+            } => {
+                let enable = EnableBits(enable);
+                write!(
+                    f,
+                    "System, enable bits {enable}, code {code}, length {length}"
+                )
+            }
             Notice::Elsewhere => match self.heard.elsewhere {
                 Some(circuit) => write!(f, "Elsewhere, {circuit}"),
                 None => f.write_str("Elsewhere"),

@@ -9,6 +9,7 @@ use super::form::{Form, Sum, Told};
 use crate::account::{
     fate_name, figures, untraced, Account, CircuitCounts, Heard, Unfinished, Unit,
 };
+use crate::enable::EnableBits;
 use crate::gaps::Gap;
 use crate::json::{line, with_unit, GapObject, Only};
 use crate::quote::{as_text, Hex};
@@ -68,6 +69,7 @@ fn notice<M: SerializeMap>(members: &mut M, told: &Told<'_>) -> Result<(), M::Er
         Notice::System { enable, code, .. } => {
             name("System")?;
             members.serialize_entry("enable", &enable)?;
+            members.serialize_entry("priorities", &EnableBits(enable).priorities())?;
             members.serialize_entry("code", &code)
         }
         Notice::Elsewhere => {

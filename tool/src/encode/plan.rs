@@ -28,17 +28,20 @@ pub struct Step {
 }
 
 pub enum Action {
-    Offer {
-        circuit: u64,
-        priority: u64,
-        repetition: u64,
-        message: Vec<u8>,
-    },
+    Offer(Offer),
     Block {
         n: u64,
         u: u64,
         system: Option<System>,
     },
+}
+
+/// A message, and how it is sent at its circuit.
+pub struct Offer {
+    pub circuit: u64,
+    pub priority: u64,
+    pub repetition: u64,
+    pub message: Vec<u8>,
 }
 
 /// A system packet's fields.
@@ -111,7 +114,9 @@ fn parse_line(text: &[u8], folder: &Path) -> Result<Line, String> {
     };
     match keyword {
         Word::Plain("circuits") => parse_circuits(rest).map(Line::Circuits),
-        Word::Plain("offer") => parse_offer(rest, folder).map(Line::Action),
+        Word::Plain("offer") => parse_offer(rest, folder)
+            .map(Action::Offer)
+            .map(Line::Action),
         Word::Plain("block") => parse_block(rest, folder).map(Line::Action),
         _ => Err(format!("expected {CIRCUITS}, {OFFER} or {BLOCK}")),
     }
@@ -129,11 +134,11 @@ fn parse_circuits(words: &[Word<'_>]) -> Result<Vec<Circuit>, String> {
     circuits::parse_list(&list.join(" "))
 }
 
-fn parse_offer(words: &[Word<'_>], folder: &Path) -> Result<Action, String> {
+fn parse_offer(words: &[Word<'_>], folder: &Path) -> Result<Offer, String> {
     let [circuit, priority, repetition, message @ ..] = words else {
         return Err(format!("expected {OFFER}"));
     };
-    Ok(Action::Offer {
+    Ok(Offer {
         circuit: number(circuit, "CIRCUIT")?,
         priority: number(priority, "PRIORITY")?,
         repetition: number(repetition, "REPETITION")?,

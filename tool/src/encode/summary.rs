@@ -1,9 +1,8 @@
 //! What was made of a plan.
 
-use aes18::Sender;
-
 use super::plan::Plan;
-use super::sending::Made;
+use super::sending::{Made, Sending};
+use crate::enable::EnableBits;
 use crate::output::{count, WARNING};
 
 /// The lines so far, one for each block, and the sums over them.
@@ -15,10 +14,14 @@ pub struct Summary {
 }
 
 impl Summary {
-    /// Notes a block; blocks are numbered from 0.
+    /// Notes a block; blocks are numbered from 0. Where not all priorities are enabled, its line says which are.
     pub fn block(&mut self, plan: &Plan, made: &Made<'_>) {
+        let enable = match made.enable {
+            EnableBits::ALL => String::new(),
+            bits => format!(", enable bits in force {bits}"),
+        };
         self.lines += &format!(
-            "{}:{}: block {}: {} placed, {} of {} bits used\n",
+            "{}:{}: block {}: {} placed, {} of {} bits used{enable}\n",
             plan.name,
             made.line,
             self.blocks,
@@ -30,16 +33,21 @@ impl Summary {
         self.bits += made.n;
     }
 
-    /// The lines with the sums and, for each circuit whose message is not placed in full, a warning.
-    pub fn end(mut self, plan: &Plan, sender: &Sender) -> String {
+    /// The lines with the sums, the enable bits in force behind the last block and, for each circuit whose message is not placed in full, a warning.
+    pub fn end(mut self, plan: &Plan, sending: &Sending) -> String {
         let (blocks, bits) = (count(self.blocks, "block"), count(self.bits, "bit"));
-        self.lines += &format!("{blocks}, {bits}");
+        let enable = sending.enable();
+        self.lines += &format!("{blocks}, {bits}; enable bits in force {enable}");
         for (number, circuit) in plan.circuits.iter().enumerate() {
-            let waiting = sender.waiting(number);
-            if waiting > 0 {
+            let packets = sending.waiting(number);
+            if packets > 0 {
+                let why = match sending.held_back(number) {
+                    Some(why) => format!(": {why}"),
+                    None => " for a later block".to_string(),
+                };
                 self.lines += &format!(
-                    "\n{WARNING}circuit {number} ({circuit}): {} waiting for a later block",
-                    count(waiting as u64, "packet")
+                    "\n{WARNING}circuit {number} ({circuit}): {} waiting{why}",
+                    count(packets, "packet")
                 );
             }
         }

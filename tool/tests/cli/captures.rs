@@ -98,7 +98,7 @@ fn words_of_silence() {
     let folder = folder("words");
     for (options, channel) in [(&LEFT[..], 0), (&RIGHT, 1)] {
         let told = encode(&folder, options, "plan", "capture");
-        assert!(told.contains("\n3 blocks, 1805 bits\n"), "{told}");
+        assert!(told.contains("\n3 blocks, 1805 bits; "), "{told}");
         let words = words(&folder.read("capture"));
         assert_eq!(words.len(), 2 * 1805);
         let filed = bits(&folder.read("bits"), 1805);
@@ -487,7 +487,7 @@ fn frames_that_end_with_the_capture() {
     let whole = folder.read("capture");
     let count = |told: &str| told.lines().filter(|line| line.starts_with("bit ")).count();
     // The places behind the frames of the plan.
-    for (number, place) in [200, 392, 584, 681, 1306, 1404, 1502, 1630]
+    for (number, place) in [200, 392, 584, 706, 804, 902, 1030, 1281]
         .iter()
         .enumerate()
     {
@@ -542,7 +542,7 @@ fn piped_captures_are_told_as_they_come() {
     let mut stdin = child.stdin.take().unwrap();
     let mut out = BufReader::new(child.stdout.take().unwrap());
     let mut sent = 0;
-    for place in [200, 392, 584, 681] {
+    for place in [200, 392, 584, 706] {
         let to = 8 * (place + 7);
         stdin.write_all(&capture[sent..to]).unwrap();
         sent = to;

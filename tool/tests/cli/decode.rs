@@ -3,7 +3,7 @@
 use std::io::Read;
 use std::process::Stdio;
 
-use serde_json::Value;
+use serde_json::{json, Value};
 
 use super::encode::PLAN;
 use super::runs::{names, objects, Folder};
@@ -13,11 +13,11 @@ const NOTICES: &str = "\
 bit 200: 7E, loss 0, Begun
 bit 392: 7E, loss 0, Copy
 bit 584: 7E, loss 0, Copy
-bit 681: System, enable bits 5, code 8, length 3: 010203
-bit 1306: 7E, loss 0, Whole, length 20: FFFFFFFFFFFFFFFFFFFFFFFFFFFFFFFFFFFFFFFF
-bit 1404: 7E, loss 0, Copy
-bit 1502: 7E, loss 0, Copy
-bit 1630: 01, loss 0, Whole, length 10: \"charge 71%\"
+bit 706: 7E, loss 0, Whole, length 20: FFFFFFFFFFFFFFFFFFFFFFFFFFFFFFFFFFFFFFFF
+bit 804: 7E, loss 0, Copy
+bit 902: 7E, loss 0, Copy
+bit 1030: 01, loss 0, Whole, length 10: \"charge 71%\"
+bit 1281: System, enable bits 5 (priorities 0 and 2), code 8, length 3: 010203
 ";
 const TOTALS: &str = "
 circuit                    01            02:07               7E
@@ -193,12 +193,12 @@ fn json_lines() {
             r#"{"bit":200,"notice":"Circuit","number":2,"circuit":"7E","loss":0,"fate":"Begun"}"#,
         ),
         (
-            3,
-            r#"{"bit":681,"notice":"System","enable":5,"code":8,"length":3,"hex":"010203"}"#,
+            6,
+            r#"{"bit":1030,"notice":"Circuit","number":0,"circuit":"01","loss":0,"fate":"Whole","length":10,"hex":"63686172676520373125","text":"charge 71%"}"#,
         ),
         (
             7,
-            r#"{"bit":1630,"notice":"Circuit","number":0,"circuit":"01","loss":0,"fate":"Whole","length":10,"hex":"63686172676520373125","text":"charge 71%"}"#,
+            r#"{"bit":1281,"notice":"System","enable":5,"priorities":[0,2],"code":8,"length":3,"hex":"010203"}"#,
         ),
         (8, JSON_TOTALS),
     ];
@@ -206,6 +206,45 @@ fn json_lines() {
         assert_eq!(values[line], objects(object)[0]);
         assert_eq!(told.lines().nth(line), Some(object), "the members' order");
     }
+}
+
+/// The priorities that a system packet enables, in words and as a list.
+#[test]
+fn enabled_priorities() {
+    let folder = Folder::new("priorities");
+    let blocks = [0, 8, 6, 11, 15].map(|bits| format!("block 256 256 system {bits} 0\n"));
+    folder.write("plan", format!("circuits 01\n{}", blocks.concat()));
+    assert_eq!(folder.run(&["encode", "plan", "-o", "bits"]).status, 0);
+    let told = folder.run(&["decode", "--circuits=01", "bits"]).told();
+    let lines = told.lines().take(5);
+    let words: Vec<&str> = lines.filter_map(|line| line.split(": ").nth(1)).collect();
+    let expected = [
+        "System, enable bits 0 (no priority), code 0, length 0",
+        "System, enable bits 8 (priority 3), code 0, length 0",
+        "System, enable bits 6 (priorities 1 and 2), code 0, length 0",
+        "System, enable bits 11 (priorities 0, 1 and 3), code 0, length 0",
+        "System, enable bits 15 (all priorities), code 0, length 0",
+    ];
+    assert_eq!(words, expected);
+    let told = folder
+        .run(&["decode", "--json", "--circuits=01", "bits"])
+        .told();
+    let notices = &objects(&told)[..5];
+    let lists = notices
+        .iter()
+        .map(|notice| (&notice["enable"], &notice["priorities"]));
+    let expected = [
+        (0, json!([])),
+        (8, json!([3])),
+        (6, json!([1, 2])),
+        (11, json!([0, 1, 3])),
+        (15, json!([0, 1, 2, 3])),
+    ];
+    let expected = expected.map(|(bits, list)| (json!(bits), list));
+    assert!(
+        lists.eq(expected.iter().map(|(bits, list)| (bits, list))),
+        "{told}"
+    );
 }
 
 const JSON_TOTALS: &str = r#"{"totals":{"bits":1808,"before":0,"gaps":0,"gap_bits":0,"modulo8":0,"system":1,"spoilt":0,"malformed":0,"elsewhere":0,"circuits":[{"number":0,"circuit":"01","packets":1,"copies":0,"lost":0,"modulo8":0,"begun":0,"held":0,"messages":1,"bytes":10,"dropped":0,"orphans":0,"wrong":0},{"number":1,"circuit":"02:07","packets":0,"copies":0,"lost":0,"modulo8":0,"begun":0,"held":0,"messages":0,"bytes":0,"dropped":0,"orphans":0,"wrong":0},{"number":2,"circuit":"7E","packets":2,"copies":4,"lost":0,"modulo8":0,"begun":1,"held":0,"messages":1,"bytes":20,"dropped":0,"orphans":0,"wrong":0}],"open":[],"untraced":["bits missing altogether","dropouts to flags","dropouts to ones behind a flag"]}}"#;

@@ -13,20 +13,20 @@ offer 1 1 1 0001020304050607 08090A0B0C0D0E0F 1011121314151617 18191A1B1C1D1E1F 
 offer 2 3 2 FFFFFFFFFFFFFFFFFFFFFFFFFFFFFFFFFFFFFFFF   # priority 3, three copies of each packet
 
 block 600 590
-block 600 600 system 5 8 010203
-block 605 605
+block 600 600
+block 605 605 system 5 8 010203
 "#;
 const BLOCKS: [&str; 3] = [
     "7ebe062128beeffbbeeffbbeeffbbeeffbbeeffbbeef73887ebe062128beeffbbeeffbbeeffbbeeffbbeeffbbeef73887ebe062128beeffbbeeffbbeeffbbeeffbbeeffbbeef73887effff",
-    "7edf8b07030406a469fcfeffffffffffffffffffffffffffffffffffffffffffffffffffffffffffffffffffffffffffffffffffffffffffffffffffffffffffffffffffffffffffffffff",
-    "7ebe8ebeeffbbeeffbbec303fbf93afabeeffbbeeffb0e0fece7ebe8fbbeeffbbeef3b3cb05f40a0c2185a98dc5919c84d4cc96389dfffffffffffffffffffffffffffffffffffffffffff1f",
+    "7ebe8ebeeffbbeeffbbec303fbf93afabeeffbbeeffb0e0fece7ebe8fbbeeffbbeef3b3cb05f40a0c2185a98dc5919c84d4cc96389dfffffffffffffffffffffffffffffffffffffffffff",
+    "7edf8b07030406a469fcfeffffffffffffffffffffffffffffffffffffffffffffffffffffffffffffffffffffffffffffffffffffffffffffffffffffffffffffffffffffffffffffffff1f",
 ];
 const SUMMARY: &str = "\
 plan:8: block 0: 3 frames placed, 584 of 600 bits used
-plan:9: block 1: 0 frames placed, 81 of 600 bits used
-plan:10: block 2: 4 frames placed, 430 of 605 bits used
-3 blocks, 1805 bits
-aes18: warning: circuit 1 (02:07): 3 packets waiting for a later block
+plan:9: block 1: 4 frames placed, 430 of 600 bits used
+plan:10: block 2: 0 frames placed, 81 of 605 bits used, enable bits in force 5 (priorities 0 and 2)
+3 blocks, 1805 bits; enable bits in force 5 (priorities 0 and 2)
+aes18: warning: circuit 1 (02:07): 3 packets waiting: priority 1 is not enabled until another system packet enables it
 ";
 
 fn hex(bytes: &[u8]) -> String {
@@ -68,6 +68,78 @@ fn odd_blocks_are_joined_bit_by_bit() {
     let block = [&[0, 1, 1, 1, 1, 1, 1, 0][..], &[1; 249]].concat();
     let spare = [0; 7];
     assert_eq!(bits, [&block.repeat(9)[..], &spare].concat());
+}
+
+/// Enable bits rule their own block and all later ones: what has priority 3 waits until another system packet enables it, and the blocks before that
+/// are as if it had not been offered.
+#[test]
+fn enable_bits_hold_over() {
+    let folder = Folder::new("hold-over");
+    let switch = "offer 0 3 0 \"switch on\"\n";
+    let others = "offer 1 1 0 \"charge 71%\"\nblock 304 304 system 7 1\n\
+        offer 1 2 0 \"charge 72%\"\nblock 304 304\nblock 304 304\n";
+    let plan = format!("circuits 01 02\n{switch}{others}block 304 304 system 15 1\n");
+    folder.write("plan", plan);
+    folder.write("without", format!("circuits 01 02\n{others}"));
+    let ran = folder.run(&["encode", "plan", "-o", "bits"]);
+    let summary = "\
+plan:4: block 0: 1 frame placed, 186 of 304 bits used, enable bits in force 7 (priorities 0, 1 and 2)
+plan:6: block 1: 1 frame placed, 136 of 304 bits used, enable bits in force 7 (priorities 0, 1 and 2)
+plan:7: block 2: 0 frames placed, 8 of 304 bits used, enable bits in force 7 (priorities 0, 1 and 2)
+plan:8: block 3: 1 frame placed, 180 of 304 bits used
+4 blocks, 1216 bits; enable bits in force 15 (all priorities)
+";
+    assert_eq!((ran.status, ran.err.as_str()), (0, summary));
+    let told = folder.run(&["decode", "--circuits=01,02", "bits"]).told();
+    let notices = "\
+bit 58: System, enable bits 7 (priorities 0, 1 and 2), code 1, length 0: \"\"
+bit 186: 02, loss 0, Whole, length 10: \"charge 71%\"
+bit 440: 02, loss 0, Whole, length 10: \"charge 72%\"
+bit 970: System, enable bits 15 (all priorities), code 1, length 0: \"\"
+bit 1092: 01, loss 0, Whole, length 9: \"switch on\"
+
+";
+    assert!(told.starts_with(notices), "{told}");
+    let ran = folder.run(&["encode", "without", "-o", "bits-without"]);
+    assert_eq!(ran.status, 0, "{}", ran.err);
+    assert_eq!(folder.read("bits")[..114], folder.read("bits-without"));
+}
+
+/// What is not placed at a plan's end is named, with the reason: no room so far, or a priority that is not enabled.
+#[test]
+fn messages_held_back_at_the_end() {
+    let folder = Folder::new("held-back");
+    let plan = "circuits 01 02 03:07\noffer 0 3 0 \"switch on\"\noffer 1 1 2 \"charge 71%\"\n\
+        offer 2 0 0 @long\nblock 304 304 system 1 0\n";
+    let later = "block 304 304 system 0 0\nblock 27000 27000\n";
+    folder.write("long", [0; 32]);
+    folder.write("plan", plan);
+    folder.write("longer", format!("{plan}{later}"));
+    let held = |circuit, packets, priority| {
+        format!("aes18: warning: circuit {circuit}: {packets} waiting: priority {priority} is not enabled until another system packet enables it\n")
+    };
+    let others = held("0 (01)", "1 packet", 3) + &held("1 (02)", "1 packet", 1);
+    let ran = folder.run(&["encode", "plan", "-o", "bits"]);
+    let room = "aes18: warning: circuit 2 (03:07): 2 packets waiting for a later block\n";
+    let sums = "\n1 block, 304 bits; enable bits in force 1 (priority 0)\n";
+    assert_eq!(ran.status, 0);
+    assert!(
+        ran.err.ends_with(&format!("{sums}{others}{room}")),
+        "{}",
+        ran.err
+    );
+    let ran = folder.run(&["encode", "longer", "-o", "bits"]);
+    let last = held("2 (03:07)", "2 packets", 0);
+    let sums = "\
+longer:7: block 2: 0 frames placed, 8 of 27000 bits used, enable bits in force 0 (no priority)
+3 blocks, 27608 bits; enable bits in force 0 (no priority)
+";
+    assert_eq!(ran.status, 0);
+    assert!(
+        ran.err.ends_with(&format!("{sums}{others}{last}")),
+        "{}",
+        ran.err
+    );
 }
 
 /// Every form of a message comes back from a receiver as it is.
@@ -252,6 +324,30 @@ fn refused_calls() {
             ("circuits 1\nblock 256 256 system 16 0", 2, system),
             ("circuits 1\nblock 256 256 system 0 9 -", 2, system),
             ("circuits 1\nblock 256 256 system 0 0 @long", 2, system),
+        ],
+    );
+}
+
+/// An offer behind a message that is held back is refused with the reason, and no other is.
+#[test]
+fn offers_behind_a_message_held_back() {
+    let pending = "refusal 10: an earlier message there still has a copy to place";
+    let held = "priority 3 is not enabled until another system packet enables it";
+    let offer = "circuits 1 2\noffer 0 3 0 -\nblock 256 256 system 7 0\nblock 256 256\n";
+    let again = |number, priority| format!("{offer}offer {number} {priority} 0 -\n");
+    try_wrong(
+        "offers-held-back",
+        &[
+            (&again(0, 0), 5, &format!("{pending}: {held}")),
+            (&again(0, 4), 5, "refusal 7: priority above 3"),
+            (&again(2, 3), 5, "refusal 6: circuit number not listed"),
+            (&again(4, 3), 5, "refusal 6: circuit number not listed"),
+            (&(again(1, 2) + "offer 1 3 0 -"), 6, pending),
+            (
+                &(again(1, 3) + "offer 1 2 0 -"),
+                6,
+                &format!("{pending}: {held}"),
+            ),
         ],
     );
 }

@@ -80,7 +80,7 @@ fn packets_of_the_specification() {
     let system = [0xFF, 0xC5, 0x83, 0x01, 0x02, 0x03];
     let charge = b"\x01\x81\x0Acharge 71%";
     let packets: [&[u8]; 8] = [
-        &begun, &begun, &begun, &system, &whole, &whole, &whole, charge,
+        &begun, &begun, &begun, &whole, &whole, &whole, charge, &system,
     ];
     assert_eq!(folder.read("line"), line_of(&packets));
     assert_eq!(folder.names(), ["bits", "line", "plan"]);
@@ -96,11 +96,11 @@ fn the_same_notices() {
 byte 23: 7E, loss 0, Begun
 byte 46: 7E, loss 0, Copy
 byte 69: 7E, loss 0, Copy
-byte 79: System, enable bits 5, code 8, length 3: 010203
-byte 92: 7E, loss 0, Whole, length 20: FFFFFFFFFFFFFFFFFFFFFFFFFFFFFFFFFFFFFFFF
-byte 105: 7E, loss 0, Copy
-byte 118: 7E, loss 0, Copy
-byte 135: 01, loss 0, Whole, length 10: \"charge 71%\"
+byte 82: 7E, loss 0, Whole, length 20: FFFFFFFFFFFFFFFFFFFFFFFFFFFFFFFFFFFFFFFF
+byte 95: 7E, loss 0, Copy
+byte 108: 7E, loss 0, Copy
+byte 125: 01, loss 0, Whole, length 10: \"charge 71%\"
+byte 135: System, enable bits 5 (priorities 0 and 2), code 8, length 3: 010203
 
 circuit                    01            02:07               7E
 packets                     1                0                2

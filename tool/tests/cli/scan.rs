@@ -46,8 +46,8 @@ fn circuits_of_a_pass() {
     let folder = folder("scan");
     let told = folder.run(&["scan", "bits"]).told();
     let expected = "\
-7E               2         4          26         0             0          1502
-01               1         0          13         0          1494          1630
+7E               2         4          26         0             0           902
+01               1         0          13         0           894          1030
 bits read 1808, circuits 2; System 1, Spoilt 0, Malformed 0
 ";
     assert_eq!(told, format!("{TABLE}{expected}{END}"));
@@ -59,8 +59,8 @@ bits read 1808, circuits 2; System 1, Spoilt 0, Malformed 0
 fn json() {
     let folder = folder("scan-json");
     let told = folder.run(&["scan", "--json", "bits"]).told();
-    let expected = r#"{"circuit":"7E","packets":2,"copies":4,"bytes":26,"modulo8":0,"from":0,"to":1502}
-{"circuit":"01","packets":1,"copies":0,"bytes":13,"modulo8":0,"from":1494,"to":1630}
+    let expected = r#"{"circuit":"7E","packets":2,"copies":4,"bytes":26,"modulo8":0,"from":0,"to":902}
+{"circuit":"01","packets":1,"copies":0,"bytes":13,"modulo8":0,"from":894,"to":1030}
 {"totals":{"bits":1808,"before":0,"gaps":0,"gap_bits":0,"modulo8":0,"circuits":2,"system":1,"spoilt":0,"malformed":0,"untraced":["bits missing altogether","dropouts to flags","dropouts to ones behind a flag"]}}
 "#;
     assert_eq!(told, expected);
@@ -219,7 +219,7 @@ fn decode_without_a_circuit() {
         assert_eq!((ran.status, ran.err.as_str()), (0, said));
         let told = String::from_utf8(ran.out).unwrap();
         assert!(
-            told.contains(": System, enable bits 15, code 0, length 0: \"\"\n"),
+            told.contains(": System, enable bits 15 (all priorities), code 0, length 0: \"\"\n"),
             "{told}"
         );
         assert!(told.contains(": Malformed\n\nb"), "{told}");

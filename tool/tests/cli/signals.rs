@@ -107,7 +107,7 @@ fn messages_stay() {
         let (mut child, _stdin) = start(folder.command(&arguments), &bits);
         wait_for_draft(&folder.path("out"));
         let told = BufReader::new(child.stdout.take().unwrap());
-        let last = told.lines().nth(7).unwrap().unwrap();
+        let last = told.lines().nth(6).unwrap().unwrap();
         assert!(last.ends_with("file 000002-01.bin"), "{last}");
         send(signal, &child);
         assert_eq!(child.wait().unwrap().signal(), Some(number));
