@@ -6,7 +6,7 @@ use crate::packet::{listed, packet_count, Circuit};
 use crate::LONGEST_MESSAGE;
 
 /// Bytes of a sender's record.
-pub const SENDER_RECORD: usize = 46;
+pub const SENDER_RECORD: usize = 47;
 /// Bytes of a receiver's record.
 pub const RECEIVER_RECORD: usize = 61;
 /// Where the slots begin in both records.
@@ -17,10 +17,14 @@ pub const SENDER_SLOT: usize = 8;
 pub const RECEIVER_SLOT: usize = 6;
 /// Where a sender's record tells the circuit last served.
 pub const LAST_SERVED: usize = 45;
+/// Where a sender's record tells the enable bits in force.
+pub const ENABLE: usize = 46;
+/// All four priorities enabled.
+pub const ALL_ENABLED: u8 = 15;
 /// Where a receiver's record tells the framing.
 pub const FRAMING_PLACE: usize = 37;
 
-/// The sender's record of no circuits: in each slot index, priority, repetition, copy and length 0, and place 1.
+/// The sender's record of no circuits: in each slot index, priority, repetition, copy and length 0, and place 1; all priorities enabled.
 pub const NO_SENDER: [u8; SENDER_RECORD] = {
     let mut record = [0; SENDER_RECORD];
     record[SLOTS + 6] = 1;
@@ -28,6 +32,7 @@ pub const NO_SENDER: [u8; SENDER_RECORD] = {
     record[SLOTS + 2 * SENDER_SLOT + 6] = 1;
     record[SLOTS + 3 * SENDER_SLOT + 6] = 1;
     record[LAST_SERVED] = 3;
+    record[ENABLE] = ALL_ENABLED;
     record
 };
 /// The receiver's record of no circuits.
@@ -112,6 +117,8 @@ pub struct SenderRecord {
     pub circuits: Vec<Circuit>,
     pub slots: Vec<SenderSlot>,
     pub last_served: usize,
+    /// The enable bits in force.
+    pub enable: u8,
 }
 
 impl SenderRecord {
@@ -124,11 +131,14 @@ impl SenderRecord {
             .map(SenderSlot::unpack)
             .collect();
         let last_served = usize::from(record[LAST_SERVED]);
-        let in_range = last_served <= 3 && slots.iter().all(SenderSlot::in_range);
+        let enable = record[ENABLE];
+        let in_range =
+            last_served <= 3 && enable <= ALL_ENABLED && slots.iter().all(SenderSlot::in_range);
         in_range.then_some(SenderRecord {
             circuits,
             slots,
             last_served,
+            enable,
         })
     }
 }

@@ -1,11 +1,12 @@
-//! 01, "Blocks" and the calls of a sender: a queue of waiting copies for each circuit, and blocks made of them.
+//! 01, "Blocks" and the calls of a sender: a queue of waiting copies for each circuit, and blocks made of them. The system packets that were sent
+//! are kept, and the last of them tells which priorities are enabled (02, ask 4).
 
 use crate::bits::bytes_of;
 use crate::hdlc::{frame, FLAG};
 use crate::packet::{listed, packet_count, packets, Circuit, System};
 use crate::records::{
-    put_circuits, SenderRecord, SenderSlot, LAST_SERVED, NO_SENDER, SENDER_RECORD, SENDER_SLOT,
-    SLOTS,
+    put_circuits, SenderRecord, SenderSlot, ENABLE, LAST_SERVED, NO_SENDER, SENDER_RECORD,
+    SENDER_SLOT, SLOTS,
 };
 use crate::{LONGEST_MESSAGE, REGION, SENDER_STORE};
 use std::collections::VecDeque;
@@ -108,11 +109,13 @@ impl Writing {
     }
 }
 
-/// A sender, with every copy that waits.
+/// A sender, with every copy that waits and every system packet that it sent.
 #[derive(Clone, Debug)]
 pub struct Sender {
     queues: Vec<Queue>,
     last_served: usize,
+    /// The system packets sent since it was built, in order.
+    systems: Vec<Vec<u8>>,
     /// The record that it was built from.
     record: [u8; SENDER_RECORD],
 }
@@ -126,7 +129,7 @@ impl Sender {
         Sender::resume(&record, &[0; SENDER_STORE])
     }
 
-    /// The sender that the first 46 bytes and the store tell, or refusal 14 or 5.
+    /// The sender that the first 47 bytes and the store tell, or refusal 14 or 5.
     pub fn resume(bytes: &[u8], store: &[u8]) -> Result<Sender, u32> {
         let told = SenderRecord::unpack(bytes).ok_or(14u32)?;
         if store.len() < SENDER_STORE {
@@ -144,6 +147,7 @@ impl Sender {
                 .map(|((&circuit, slot), region)| Queue::of(circuit, slot, region))
                 .collect(),
             last_served: told.last_served,
+            systems: vec![],
             record,
         })
     }
@@ -156,7 +160,14 @@ impl Sender {
             slot.copy_from_slice(&queue.slot().pack());
         }
         record[LAST_SERVED] = self.last_served as u8;
+        record[ENABLE] = self.enable();
         record
+    }
+
+    /// The enable bits in force: those of the last system packet sent, or, if none was, those of the record that it was built from.
+    fn enable(&self) -> u8 {
+        let last = self.systems.last();
+        last.map_or(self.record[ENABLE], |packet| packet[1] & 15)
     }
 
     /// Offers a message at a circuit, or gives the refusal's number.
@@ -237,10 +248,11 @@ impl Sender {
             frames: vec![],
         };
         if let Some(system) = system {
-            writing.put(None, &frame(&system.packet()));
+            let packet = system.packet();
+            writing.put(None, &frame(&packet));
+            self.systems.push(packet);
         }
-        let enable = system.map_or(15, |system| system.enable);
-        while let Some(number) = self.pick(enable) {
+        while let Some(number) = self.pick() {
             let frame = frame(&self.queues[number].copies[0]);
             if writing.bits.len() + frame.len() + FLAG.len() > u {
                 break;
@@ -253,7 +265,8 @@ impl Sender {
     }
 
     /// The circuit of the next frame: of the highest enabled priority that waits, the first going round by number after the one last served.
-    fn pick(&self, enable: u64) -> Option<usize> {
+    fn pick(&self) -> Option<usize> {
+        let enable = self.enable();
         let waits = |number: &usize| {
             let queue = &self.queues[*number];
             !queue.copies.is_empty() && enable >> queue.priority & 1 == 1
