@@ -1,4 +1,4 @@
-"""Frames and blocks made from document 01, for the tests beside this file. Nothing of the proved crates is used here."""
+"""Frames and blocks made from document 01, with the enable bits of 02, ask 4, for the tests beside this file. Nothing of the proved crates is used here."""
 import collections
 
 FLAG = [0, 1, 1, 1, 1, 1, 1, 0]
@@ -44,13 +44,14 @@ Frame = collections.namedtuple("Frame", "circuit packet start end")
 
 
 class Sender:
-    """A sender told by its queues of waiting copies: (priority, packet, number of the packet at its circuit)."""
+    """A sender told by its queues of waiting copies: (priority, packet, number of the packet at its circuit), and by the enable bits in force."""
 
     def __init__(self, circuits):
         self.circuits = circuits
         self.queues = [[] for _ in circuits]
         self.packets = [0 for _ in circuits]
         self.last = 3
+        self.enable = 15
 
     def offer(self, c, priority, repetition, message):
         if c >= len(self.circuits):
@@ -73,9 +74,9 @@ class Sender:
             self.packets[c] += 1
         return "accepted"
 
-    def pick(self, enable):
+    def pick(self):
         for priority in (3, 2, 1, 0):
-            if enable >> priority & 1:
+            if self.enable >> priority & 1:
                 for step in range(1, 5):
                     c = (self.last + step) % 4
                     if c < len(self.circuits) and self.queues[c] and self.queues[c][0][0] == priority:
@@ -83,21 +84,21 @@ class Sender:
         return None
 
     def block(self, n, u, room, system):
-        """The block, or a refusal's number."""
+        """The block, or a refusal's number. The enable bits of a system packet rule its block and all later ones, until another is sent."""
         if not 256 <= n <= 27000 or not 256 <= u <= n:
             return 11
         if room * 8 < n:
             return 12
         if system and (system[0] > 15 or system[1] > 8 or len(system[2]) > 15):
             return 13
-        bits, enable, frames = list(FLAG), 15, []
+        bits, frames = list(FLAG), []
         if system:
-            enable, code, information = system
-            bits += frame(bytes([0xFF, 0xC0 | enable, code << 4 | len(information)]) + information) + FLAG
+            self.enable, code, information = system
+            bits += frame(bytes([0xFF, 0xC0 | self.enable, code << 4 | len(information)]) + information) + FLAG
             frames.append(Frame(None, 0, 0, len(bits)))
         placed = 0
         while True:
-            c = self.pick(enable)
+            c = self.pick()
             if c is None:
                 break
             _, packet, number = self.queues[c][0]

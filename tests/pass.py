@@ -14,6 +14,7 @@ SENDERS = [(0x10, 0, 0), (0x02, 1, 0x07), (0x7E, 0, 0), (0x33, 0, 0)]
 RECEIVERS = [(0x7E, 0, 0), (0x33, 0, 0), (0x10, 0, 0), (0x02, 1, 0x07)]
 PRIORITY, REPETITION = [1, 1, 3, 0], [0, 1, 2, 0]
 LENGTHS = [[1, 16, 200, 40, 40, 15], [1, 0, 15, 16, 40, 40], [15, 15, 16, 1, 0, 40], [16, 15, 0, 1, 40, 40]]
+# The system packets by block: the first bars priority 3 in blocks 4 to 8.
 SYSTEM = {4: (7, 1, b"eclipse"), 9: (15, 2, b"sunlit")}
 BLOCKS, N, U = 12, 1200, 1100
 CASES = ["Copy", "Begun", "Held", "Orphan", "Wrong", "Whole"]

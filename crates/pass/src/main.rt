@@ -126,7 +126,7 @@ fn offer_all(sender: Sender, store: &mut [u8], taken: &mut [usize; 4]) -> Sender
     s
 }
 
-// A block is made. Two of them have a system packet, and the first of these bars priority 3.
+// A block is made. Two of them have a system packet: that of block 4 bars priority 3, until that of block 9 enables it again.
 fn make(sender: Sender, store: &[u8], block: &mut [u8], number: usize) -> Making {
     if number == 4 {
         return make_block(sender, store, block, BITS, USABLE, true, 7, 1, b"eclipse");

@@ -210,8 +210,20 @@ fn refused_offers(sender: Sender, store: &mut [u8]) -> Sender {
 fn first_blocks(sender: Sender, store: &[u8]) -> Sender {
     let mut s = plain(sender, store, 600, 590);
     s = block(s, store, 600, 600, true, 5, 8, b"\x01\x02\x03");
+    s = held_blocks(s, store);
     s = plain(s, store, 605, 605);
     plain(s, store, 601, 256)
+}
+
+// The enable bits 5 hold over, and all that waits has priority 1 or 3. Refused system packets change nothing; one that is sent enables all, and
+// leaves no room for a frame.
+fn held_blocks(sender: Sender, store: &[u8]) -> Sender {
+    let most = [0xffu8; 15];
+    let mut s = plain(sender, store, 600, 600);
+    s = block(s, store, 641, 641, true, 15, 0, b"");
+    s = block(s, store, 600, 600, true, 15, 9, b"");
+    s = plain(s, store, 600, 600);
+    block(s, store, 256, 256, true, 15, 8, &most)
 }
 
 fn last_blocks(sender: Sender, store: &[u8]) {
