@@ -161,7 +161,7 @@ impl Both {
             .library
             .sender_offer(copy.lent(), store_copy.lent(), call);
         let reference = calls::sender_offer(record, store, call);
-        self.compare(Call {
+        let number = self.compare(Call {
             function: Function::SenderOffer,
             given: &|| given(&before, store, &call),
             library,
@@ -170,7 +170,9 @@ impl Both {
                 ("the record", &copy, record),
                 ("the store", &store_copy, store),
             ],
-        })
+        })?;
+        self.tally.enabling.offer(number, &before);
+        Ok(number)
     }
 
     pub fn sender_block(
@@ -192,7 +194,7 @@ impl Both {
             answer_copy.lent(),
         );
         let reference = calls::sender_block(record, store, call, block, answer);
-        self.compare(Call {
+        let number = self.compare(Call {
             function: Function::SenderBlock,
             given: &|| given(&before, store, &call),
             library,
@@ -202,7 +204,10 @@ impl Both {
                 ("the answer's bytes", &answer_copy, answer),
                 ("the block", &block_copy, block),
             ],
-        })
+        })?;
+        let enabling = &mut self.tally.enabling;
+        enabling.block(number, &before, call, record, answer);
+        Ok(number)
     }
 
     pub fn receiver_read(

@@ -1,5 +1,5 @@
 //! A sender and a receiver that go from call to call. Beside the calls on the record's bytes runs the reference that keeps its own queues,
-//! bits and sums from the listing on; what its record would be, and what it answers, is compared after each call.
+//! system packets, bits and sums from the listing on; what its record would be, and what it answers, is compared after each call.
 
 use crate::both::{differ, shown, Both, Compared};
 use crate::inputs::spare;
@@ -13,12 +13,13 @@ use aes18_reference::sender::{Block, Sender};
 use aes18_reference::totals::{Figures, Totals, TOTALS_RECORD};
 use aes18_reference::{RECEIVER_STORE, SENDER_STORE};
 
-/// The library, which gave what the reference makes of the record's bytes, must also give what the reference has with its own queues, bits and sums.
+/// The library, which gave what the reference makes of the record's bytes, must also give what the reference has with all that it keeps.
 fn same(part: &str, library: &[u8], history: &[u8]) -> Compared<()> {
     if library == history {
         return Ok(());
     }
-    let call = "a call beside the reference that keeps its own queues, bits and sums";
+    let call =
+        "a call beside the reference that keeps its own queues, system packets, bits and sums";
     differ(
         call.to_string(),
         part,

@@ -20,7 +20,8 @@ use std::env;
 use std::process::ExitCode;
 use std::time::{Duration, Instant, SystemTime, UNIX_EPOCH};
 use trials::{
-    cuts, framings, lengths, lines, listing, packets, passes, reading, records, sending, totals,
+    cuts, enabling, framings, lengths, lines, listing, packets, passes, reading, records, sending,
+    totals,
 };
 
 /// A trial under its name, and how often it is made in a lap.
@@ -30,9 +31,10 @@ type Trial = (
     fn(&mut Both, &mut Random) -> Compared<()>,
 );
 
-const TRIALS: [Trial; 25] = [
+const TRIALS: [Trial; 26] = [
     ("listing", 10, listing::any),
     ("sending", 20, sending::run),
+    ("few system packets", 20, enabling::few),
     ("reading", 10, reading::run),
     ("noise", 5, reading::noise),
     ("cuts", 1, cuts::every_place),
@@ -53,7 +55,7 @@ const TRIALS: [Trial; 25] = [
     ),
     ("any totals", 60, totals::any),
     ("a list of notices near the most", 20, totals::near_the_most),
-    ("passes", 150, passes::pass),
+    ("passes", 180, passes::pass),
     ("writing to a line", 10, lines::writing),
     ("packets written and read back", 30, lines::read_back),
     ("any line", 60, lines::any_line),
@@ -98,6 +100,7 @@ fn gate() -> Result<(), String> {
     let mut both = Both::default();
     listing::all(&mut both).map_err(|difference| show(0, "every circuit", 0, &difference))?;
     packets::all(&mut both).map_err(|difference| show(0, "every packet", 0, &difference))?;
+    enabling::all(&mut both).map_err(|difference| show(0, "every enable byte", 0, &difference))?;
     framings::all(&mut both).map_err(|difference| show(0, "every framing", 0, &difference))?;
     totals::all(&mut both).map_err(|difference| show(0, "every answer", 0, &difference))?;
     lines::all(&mut both).map_err(|difference| show(0, "every byte of a line", 0, &difference))?;

@@ -1,11 +1,13 @@
 //! What was seen: how many calls of each function, how often each answer, notice and fate.
 
+mod enabling;
 mod framings;
 mod lines;
 
 use aes18_reference::calls::answered_notice;
 use aes18_reference::receiver::{Fate, Notice};
 use aes18_reference::totals::{Figures, Totals, MOST};
+use enabling::Enabling;
 use framings::Framings;
 use lines::Lines;
 use std::collections::BTreeMap;
@@ -66,11 +68,13 @@ pub struct Claim {
     pub with_messages_gone: u64,
     /// Messages handed over.
     pub messages: u64,
+    /// Of the passes: those in which enable bits of an earlier block held a frame back.
+    pub held_back: u64,
 }
 
 impl Claim {
     /// The counts of which a comparison that covers everything has enough.
-    fn wanted(&self) -> [(&'static str, u64, u64); 4] {
+    fn wanted(&self) -> [(&'static str, u64, u64); 5] {
         [
             ("passes", self.passes, 1000),
             ("messages handed over", self.messages, 5000),
@@ -80,6 +84,7 @@ impl Claim {
                 self.with_messages_gone,
                 200,
             ),
+            ("passes with a frame held back", self.held_back, 500),
         ]
     }
 }
@@ -88,13 +93,15 @@ impl fmt::Display for Claim {
     fn fmt(&self, out: &mut fmt::Formatter<'_>) -> fmt::Result {
         write!(
             out,
-            "demand 3: held at {} addresses of {} passes, at {} with packets lost, at {} with whole messages lost, {} messages handed over; \
+            "demand 3: held at {} addresses of {} passes, at {} with packets lost, at {} with whole messages lost, {} messages handed over, \
+             {} passes with a frame held back by enable bits of an earlier block; \
              not asked for: {} passes in which another frame passed, {} addresses with more than six lost in a row",
             self.addresses,
             self.passes,
             self.with_packets_lost,
             self.with_messages_gone,
             self.messages,
+            self.held_back,
             self.other_frames,
             self.more_than_six
         )
@@ -213,6 +220,7 @@ pub struct Tally {
     notices: [u64; 6],
     fates: [u64; 6],
     pub cuts: Cuts,
+    pub enabling: Enabling,
     pub framings: Framings,
     pub noted: Noted,
     pub lines: Lines,
@@ -254,6 +262,7 @@ impl Tally {
         answers
             .chain(notices)
             .chain(self.cuts.missing())
+            .chain(self.enabling.missing())
             .chain(self.framings.missing())
             .chain(self.noted.missing())
             .chain(self.lines.missing())
@@ -302,6 +311,7 @@ impl fmt::Display for Tally {
         writeln!(out, "notices: {}", line(&NOTICES, &self.notices))?;
         writeln!(out, "fates: {}", line(&FATES, &self.fates))?;
         writeln!(out, "{}", self.cuts)?;
+        writeln!(out, "{}", self.enabling)?;
         writeln!(out, "{}", self.framings)?;
         writeln!(out, "{}", self.noted)?;
         writeln!(out, "{}", self.lines)?;

@@ -3,12 +3,14 @@
 use crate::both::{Both, Compared};
 use crate::inputs;
 use crate::random::Random;
+use aes18_reference::records::{RECEIVER_RECORD, SENDER_RECORD};
 
 /// Lists of any kind, with records of any length.
 pub fn any(both: &mut Both, random: &mut Random) -> Compared<()> {
     for _ in 0..40 {
         let list = inputs::any_list(random);
-        let length = random.pick(&[46, 61, 61, 61, 80]) - random.pick(&[0, 0, 0, 1, 46]);
+        let longer = random.pick(&[SENDER_RECORD, RECEIVER_RECORD, RECEIVER_RECORD, 80]);
+        let length = longer - random.pick(&[0, 0, 0, 1, SENDER_RECORD]);
         list_at_both_ends(both, &random.bytes(length), &list)?;
     }
     Ok(())

@@ -1,6 +1,7 @@
 //! The trials: each makes calls of one kind with values that follow from a seed.
 
 pub mod cuts;
+pub mod enabling;
 pub mod framings;
 pub mod lengths;
 pub mod lines;

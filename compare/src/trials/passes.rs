@@ -52,7 +52,9 @@ struct Told {
 
 pub fn pass(both: &mut Both, random: &mut Random) -> Compared<()> {
     let list = inputs::list(random);
+    let before = both.tally.enabling.held_over();
     let pass = send(both, random, &list)?;
+    let held_back = both.tally.enabling.held_over() > before;
     let arrived = damaged(random, &pass);
     let heard = receiver_list(random, &list);
     let told = read(both, random, &heard, &arrived)?;
@@ -61,6 +63,7 @@ pub fn pass(both: &mut Both, random: &mut Random) -> Compared<()> {
         return Ok(());
     };
     both.tally.claim.passes += 1;
+    both.tally.claim.held_back += u64::from(held_back);
     for (circuit, told) in inputs::circuits(&heard).iter().zip(told) {
         check(both, &pass, &came, *circuit, told)?;
     }
@@ -178,7 +181,7 @@ fn block_call<'a>(random: &mut Random, information: &'a [u8]) -> BlockCall<'a> {
         n,
         u: n - random.below(300) as u64,
         system: random.pick(&[0, 0, 0, 1]),
-        enable: random.pick(&[15, 15, 15, 7, 8, 3, 16]),
+        enable: random.pick(&[15, 15, 15, 15, 7, 8, 3, 0, 16]),
         code: random.argument(8),
         information,
     }

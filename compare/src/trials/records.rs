@@ -6,6 +6,7 @@ use crate::random::Random;
 use crate::stream::stream;
 use aes18_reference::bits::bytes_of;
 use aes18_reference::calls::{BlockCall, OfferCall, ReadCall, BLOCK_ANSWER, READ_ANSWER};
+use aes18_reference::packet::System;
 use aes18_reference::receiver::Receiver;
 use aes18_reference::records::{RECEIVER_RECORD, RECEIVER_SLOT, SENDER_RECORD, SENDER_SLOT, SLOTS};
 use aes18_reference::sender::Sender;
@@ -30,7 +31,17 @@ fn plain(n: u64, u: u64) -> BlockCall<'static> {
     }
 }
 
-/// A sender's, some messages waiting or half placed.
+/// A system packet of any enable bits, mostly none.
+fn system(random: &mut Random) -> Option<System<'static>> {
+    let enable = random.next() % 16;
+    random.once_in(4).then_some(System {
+        enable,
+        code: 0,
+        information: &[],
+    })
+}
+
+/// A sender's, some messages waiting or half placed, and any enable bits in force.
 fn sender(random: &mut Random) -> Base {
     let list = inputs::list(random);
     let mut sender = Sender::list(&list).expect("an accepted list");
@@ -42,7 +53,8 @@ fn sender(random: &mut Random) -> Base {
         let offered = sender.offer(&mut store, circuit, priority, repetition, &message);
         offered.expect("nothing waits there");
         if random.once_in(2) {
-            let made = sender.block(&store, 900, 256 + random.next() % 600, None, &mut [0; 113]);
+            let u = 256 + random.next() % 600;
+            let made = sender.block(&store, 900, u, system(random), &mut [0; 113]);
             made.expect("values in range");
         }
     }
@@ -134,7 +146,8 @@ fn any_record(random: &mut Random, record: &[u8]) -> Vec<u8> {
         1..=4 => {
             for _ in 0..1 + random.below(3) {
                 let at = random.below(bytes.len());
-                bytes[at] = random.pick(&[0, 1, 2, 3, 4, 5, 6, 7, 8, 15, 31, 168, 169, 255]);
+                bytes[at] =
+                    random.pick(&[0, 1, 2, 3, 4, 5, 6, 7, 8, 15, 16, 17, 31, 168, 169, 255]);
             }
         }
         _ => {}
