@@ -1,8 +1,8 @@
 //! The AES18 user-bit channel written a second time from its specification (document 01, "01" below), to be compared with the proved
 //! library. It shares no code with the library and works differently: bits are strings of `bool`, a receiver keeps the bits themselves
 //! since the last flag and searches them for flags, bodies are unstuffed whole, the FCS is a long division, and a sender holds a queue
-//! of ready copies for each circuit and the system packets that it sent; the serial line is a text that is cut at its flags, and so are the bits of a framing alone. It is meant to be
-//! checked by reading it beside 01 and the change requests, not to be fast or small.
+//! of ready copies for each circuit and the system packets that it sent; the serial line is a text that is cut at its flags, and so are the
+//! bits of a framing alone. It is meant to be checked by reading it beside 01 and the change requests, not to be fast or small.
 //!
 //! [`sender::Sender`] and [`receiver::Receiver`] are the two ends with all they remember, [`totals::Totals`] what notices add up to,
 //! [`framing::Framing`] reads packets of whatever circuit, [`line`] is the serial line. [`calls`] has the functions of the C interface, which are given a record as bytes: there an end is built anew from the bytes

@@ -200,10 +200,15 @@ fn first_offers(sender: Sender, store: &mut [u8]) -> Sender {
     offer(s, store, 2, 3, 2, &ones)
 }
 
-fn refused_offers(sender: Sender, store: &mut [u8]) -> Sender {
-    let mut s = offer(sender, store, 1, 0, 0, b"");
-    s = offer(s, store, 3, 0, 0, b"");
-    s = offer(s, store, 0, 4, 0, b"");
+// Offers at a circuit that still has a copy to place, and at one that is not listed.
+fn refused_circuits(sender: Sender, store: &mut [u8]) -> Sender {
+    let s = offer(sender, store, 1, 0, 0, b"");
+    offer(s, store, 3, 0, 0, b"")
+}
+
+// Offers with a priority and a repetition that are too high.
+fn refused_numbers(sender: Sender, store: &mut [u8]) -> Sender {
+    let s = offer(sender, store, 0, 4, 0, b"");
     offer(s, store, 0, 0, 6, b"")
 }
 
@@ -243,7 +248,8 @@ fn blocks() {
     let listed = Sender::list(b"\x01\x00\x00\x02\x01\x07\x7e\x00\x00");
     let sender = listed.sender;
     let offered = first_offers(sender, &mut store);
-    let refused = refused_offers(offered, &mut store);
+    let waiting = refused_circuits(offered, &mut store);
+    let refused = refused_numbers(waiting, &mut store);
     let left = first_blocks(refused, &store);
     let again = offer(left, &mut store, 0, 0, 5, b"");
     last_blocks(again, &store);
