@@ -19,10 +19,10 @@
 /// # Ok(())
 /// # }
 /// ```
-#[derive(Clone, Copy, Debug, Default, PartialEq, Eq)]
+#[derive(Clone, Copy, Debug, PartialEq, Eq)]
 pub struct SystemPacket<'a> {
     /// Which priorities are enabled, in its block and in all later ones until another system packet is sent: bit 3 for priority 3 down to bit 0 for
-    /// priority 0. What is not enabled waits; 0, the default, holds everything back.
+    /// priority 0. What is not enabled waits, with 0 everything.
     pub enable: u64,
     /// The block code, 0 to 8.
     pub code: u64,
@@ -33,4 +33,15 @@ pub struct SystemPacket<'a> {
 impl SystemPacket<'_> {
     /// The enable bits of all four priorities, which a fresh sender has in force.
     pub const ALL_ENABLED: u64 = 0b1111;
+}
+
+/// All priorities enabled, block code 0 and no information.
+impl Default for SystemPacket<'_> {
+    fn default() -> Self {
+        SystemPacket {
+            enable: SystemPacket::ALL_ENABLED,
+            code: 0,
+            information: &[],
+        }
+    }
 }

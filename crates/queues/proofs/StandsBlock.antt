@@ -11,10 +11,11 @@ use Rattle.packet.specs.Circuits.{noCircuit}
 use Rattle.offering.specs.declared.Slot.{Slot}
 use Rattle.offering.specs.declared.Sender.{Sender}
 use Rattle.offering.specs.Record.{noSlot, slotAt, messageAt}
-use Rattle.offering.proofs.Ranges.{inRange-facts, facts-inRange}
+use Rattle.offering.proofs.Ranges.{inRange-facts}
 use Rattle.picking.specs.Picking.{pick, served, copiesWaiting}
 use Rattle.writing.specs.NextFrame.{nextFrame}
 use Rattle.sender.specs.Blocks.{flaggedFrames, placedPackets, Filled, full, andThen, placing, fill, copiesIn, waiting, fillUp, inForce, ruled, blockFilled}
+use Rattle.sender.proofs.InForce.{inRange-ruled}
 use Rattle.queues.specs.Queues.{Queue, Queues, freshQueue, queueAt, serveQueues, ruledQueues, Placed, Taken, takenNone, andTaken, takingFirst, taking, takeUpTo, copiesInQueues, takeFrames}
 use Rattle.queues.specs.Effects.{BlockAsked, takenFor, packetsTaken}
 use Rattle.queues.specs.Stands.{Stands}
@@ -93,10 +94,8 @@ stands-ruled : (s : Sender) (store : List ℕ) (q : Queues) (enable : Option ℕ
     → Stands (ruled s enable) store (ruledQueues q enable)
 unfolding ruled ruledQueues slotAt messageAt queueAt
 stands-ruled s store q enable h few =
-    let f = inRange-facts s (h .range) in
     record {
-      range =
-          facts-inRange (ruled s enable) (record { count = f .count; circuits = f .circuits; last = f .last; enable = few; slots = f .slots });
+      range = inRange-ruled s enable (h .range) few;
       places = h .places;
       slots = h .slots;
       count = h .count;

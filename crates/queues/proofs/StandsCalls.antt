@@ -23,7 +23,7 @@ use Rattle.offering.proofs.Offers.{OfferFacts, offerRefusal-zero}
 use Rattle.sender.specs.Blocks.{System, systemPackets, enableBits, ruled, blockFilled, blockRefusal, senderAfterBlock}
 use Rattle.sender.proofs.InForce.{inForce-fits}
 use Rattle.queues.specs.Queues.{Queues, freshQueue, freshQueues, queueAt, copiesFrom}
-use Rattle.queues.specs.Effects.{Effect, noEffect, sendsMessage, takesFrames, takenFor, queuesAfterEffect, queuesAfter}
+use Rattle.queues.specs.Effects.{Effect, noEffect, sendsMessage, takesFrames, queuesAfterEffect, queuesAfter}
 use Rattle.queues.specs.Calls.{Call, offer, block, End, freshEnd, accepted, afterCall, afterCalls, effect, effectOf, effects}
 use Rattle.queues.specs.Stands.{StandsFor, Stands}
 use Rattle.queues.proofs.StandsOffer.{stands-offer}

@@ -11,6 +11,13 @@ use Rattle.sender.specs.Blocks.{System, enableBits, inForce, ruled, bloc
 use Rattle.sender.specs.BlockCalls.{Allowed}
 use Rattle.sender.proofs.BlockRefusals.{Accepted, accepted}
 
+-- a record in range is in range under other bits, if these are at most 15
+pub inRange-ruled : (s : Sender) (enable : Option ℕ) → inRange s ≡ true → inForce (s .enable) enable ≤ 15 → inRange (ruled s enable) ≡ true
+unfolding ruled
+inRange-ruled s enable range few =
+    let f = inRange-facts s range in
+    facts-inRange (ruled s enable) (record { count = f .count; circuits = f .circuits; last = f .last; enable = few; slots = f .slots })
+
 module _ (s : Sender) (store buffer : List ℕ) (n u : ℕ) (y : System) (e : blockRefusal s store buffer n u y ≡ 0) where
   pub inForce-fits : inForce (s .enable) (enableBits y) ≤ 15
   unfolding enableBits inForce
@@ -24,8 +31,4 @@ module _ (s : Sender) (store buffer : List ℕ) (n u : ℕ) (y : System) (e : bl
       go false allowed few = few
 
   pub ruled-in-range : inRange (ruled s (enableBits y)) ≡ true
-  unfolding ruled
-  ruled-in-range =
-      let f = inRange-facts s (accepted s store buffer n u y e .record-in-range) in
-      facts-inRange (ruled s (enableBits y))
-      (record { count = f .count; circuits = f .circuits; last = f .last; enable = inForce-fits; slots = f .slots })
+  ruled-in-range = inRange-ruled s (enableBits y) (accepted s store buffer n u y e .record-in-range) inForce-fits
