@@ -80,6 +80,12 @@ fn a_fresh_sender_has_all_enabled() {
 }
 
 #[test]
+fn a_default_system_packet_enables_all() {
+    assert_eq!(SystemPacket::default(), system(15));
+    assert_eq!(SystemPacket::default().enable, SystemPacket::ALL_ENABLED);
+}
+
+#[test]
 fn they_rule_their_own_block_and_all_later_ones() {
     for enable in 0..16u8 {
         let mut end = End::new();
