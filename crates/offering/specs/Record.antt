@@ -1,7 +1,7 @@
 -- A sender's record (document 01, "Circuits and records" and refusal 14). A slot tells of a circuit: `index` is the continuity index of its
 -- next packet; `priority`, `repetition` and `length` are its last message's; `place` counts the packets of it of which every copy is
--- placed, and `copy` the copies placed of the packet behind those. `last` is the number of the circuit last served, and `enable` are the enable
--- bits in force (request 4).
+-- placed, and `copy` the copies placed of the packet behind those. `last` is the number of the circuit last served, and `enable` has the enable
+-- bits in force (document 02, ask 4).
 use Prim.Native.Nat.{ℕ, _*_}
 use mathlib.Core.Bool.{Bool, true, _&&_}
 use mathlib.Core.List.{List, [], _∷_}
@@ -23,7 +23,7 @@ unfoldable pub freshSlot : Slot
 freshSlot = record { index = 0; priority = 0; repetition = 0; copy = 0; length = 0; place = 1 }
 
 -- "A fresh sender .. is the record that an accepted listing returned"; "a fresh sender: circuit 0 first"; "A fresh sender has all four enabled"
--- (request 4)
+-- (document 02, ask 4)
 unfoldable pub fresh : Circuits → Sender
 fresh cs = record { circuits = cs; slots = replicate 4 freshSlot; last = 3; enable = 15 }
 
@@ -51,7 +51,7 @@ slotsInRange [] = true
 slotsInRange (t ∷ ts) = slotInRange t && slotsInRange ts
 
 -- "14 a record out of range (more than four circuits, circuits that listing refuses by 2, 3 or 4, a last served above 3, ..."; "Bits above 15 in a
--- record are out of range" (request 4)
+-- record are out of range" (document 02, ask 4)
 unfoldable pub inRange : Sender → Bool
 inRange s =
     leb (s .circuits .count) 4 && eqb (circuitsRefusal (listed (s .circuits))) 0 && leb (s .last) 3 && leb (s .enable) 15 &&

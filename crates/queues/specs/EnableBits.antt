@@ -1,4 +1,4 @@
--- The enable bits that calls put in force, and the frames that they let pass (request 4).
+-- The enable bits that calls put in force, and the frames that they let pass (document 02, ask 4).
 use Prim.Native.Nat.{ℕ}
 use mathlib.Core.Bool.{true, cond}
 use mathlib.Core.List.{List, [], _∷_, _++_}

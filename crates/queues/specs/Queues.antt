@@ -27,7 +27,7 @@ pub record Queue : Type 0 where
   pub copies : List Copy
   pub sent : ℕ
 
--- the queues by circuit number, the circuit last served, and the enable bits in force (request 4)
+-- the queues by circuit number, the circuit last served, and the enable bits in force (document 02, ask 4)
 pub record Queues : Type 0 where
   pub queues : List Queue
   pub last : ℕ

@@ -95,8 +95,8 @@ systemPackets y = cond (y .wanted) (systemPacket (y .enable) (y .code) (y .infor
 unfoldable pub enableBits : System → Option ℕ
 enableBits y = cond (y .wanted) (some (y .enable)) none
 
--- "its enable bits rule its own block and all later ones, until another system packet is sent" (request 4): those in force, where `held` were
--- in force before
+-- "its enable bits rule its own block and all later ones, until another system packet is sent" (document 02, ask 4): those in force, where
+-- `held` were before
 unfoldable pub inForce : ℕ → Option ℕ → ℕ
 inForce held none = held
 inForce held (some enable) = enable
@@ -148,7 +148,8 @@ blockRefusal s store buffer n u y =
     (cond (shortBuffer buffer n) 12
     (cond (wrongSystem y) 13 0))))
 
--- "All refusals return .. the record given, and leave every lent byte unchanged"; "A refused block changes nothing here" (request 4)
+-- "All refusals return .. the record given, and leave every lent byte unchanged"; "A refused block changes nothing here" (document
+-- 02, ask 4)
 unfoldable pub senderAfterBlock : Sender → List ℕ → List ℕ → ℕ → ℕ → System → Sender
 senderAfterBlock s store buffer n u y =
     cond (eqb (blockRefusal s store buffer n u y) 0) (blockFilled (ruled s (enableBits y)) store u (systemPackets y) .sender) s
