@@ -407,7 +407,7 @@ static void test_empty_block(void)
     ALL(c.bytes[BLOCK] + 33, OLD, 2);
 }
 
-/* Every number but 0 asks for a system packet, and its enable bits rule its own block. */
+/* Every number but 0 asks for a system packet, and its enable bits rule its block, whatever were in force before. */
 static void test_system(void)
 {
     static const uint64_t wanted[] = {1, 256, 65536, 4294967296u, UINT64_MAX};

@@ -1,5 +1,5 @@
-// The AES18 user-bit channel for C and Rust: the calls of document 01, pass totals and the serial line (document 02, asks 1 and 3), and reading with the
-// framing alone, over records and answers laid out in bytes (include/aes18.h).
+// The AES18 user-bit channel for C and Rust: the calls of document 01, with enable bits that hold over (document 02, ask 4), pass totals and the serial
+// line (asks 1 and 3), and reading with the framing alone, over records and answers laid out in bytes (include/aes18.h).
 
 use layout::answer_number;
 use layout::clipped;
@@ -69,7 +69,7 @@ pub extern "C" fn aes18_sender_offer(
     0
 }
 
-// A block of n bits, of which u may be used, with a system packet where `system` is not 0.
+// A block of n bits, of which u may be used, with a system packet where `system` is not 0. Its enable bits are in force from then on.
 #[no_mangle]
 pub extern "C" fn aes18_sender_block(
     record: &mut [u8],

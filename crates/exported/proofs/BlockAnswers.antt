@@ -6,7 +6,7 @@ use native.Mathlib.Omega.{arith}
 use lib.ListN.{length, length-append, length-map}
 use Rattle.hdlc.proofs.Ending.{length-flag}
 use Rattle.offering.specs.declared.Sender.{Sender}
-use Rattle.sender.specs.Blocks.{framesBits, flaggedFrames, PlacedFrame, placedPackets, System, systemPackets, enableBits, ruled, blockFilled, blockPackets, usedBits, blockRefusal}
+use Rattle.sender.specs.Blocks.{framesBits, flaggedFrames, PlacedFrame, placedPackets, System, systemPackets, enableBits, blockFilled, blockPackets, usedBits, blockRefusal}
 use Rattle.sender.specs.BlockCalls.{framesPlaced, bitsUsed}
 use Rattle.sender.proofs.BlockRefusals.{accepted}
 use Rattle.sender.proofs.UsedAtMostU.{used-at-most-U}
@@ -21,7 +21,7 @@ placed-at-most-used : (s : Sender) (store : List ℕ) (u : ℕ) (y : System) →
 unfolding usedBits flaggedFrames blockPackets placedPackets
 placed-at-most-used s store u y =
     let before = systemPackets y in
-    let frames = blockFilled (ruled s (enableBits y)) store u before .frames in
+    let frames = blockFilled s store u before (enableBits y) .frames in
     let same : length (placedPackets frames) ≡ length frames = length-map frames (λ (f : PlacedFrame). f .packet) in
     rw length-append
     (omega (arith, framesBits-long (before ++ placedPackets frames), length-append before (placedPackets frames), same))

@@ -17,7 +17,7 @@ use Rattle.offering.specs.declared.Slot.{Slot}
 use Rattle.offering.specs.declared.Sender.{Sender}
 use Rattle.offering.specs.Record.{fresh}
 use Rattle.offering.specs.Offering.{offerRefusal, offeredStore, senderAfterOffer, storeAfterOffer}
-use Rattle.sender.specs.Blocks.{System, systemPackets, enableBits, ruled, blockBits, blockBuffer, blockRefusal, senderAfterBlock, bufferAfterBlock}
+use Rattle.sender.specs.Blocks.{System, systemPackets, enableBits, blockBits, blockBuffer, blockRefusal, senderAfterBlock, bufferAfterBlock}
 use Rattle.sender.specs.BlockCalls.{framesPlaced, bitsUsed}
 use Rattle.layout.specs.Layout.{lowBytes, circuitBytes, circuitsBytes}
 use Rattle.sender_layout.specs.SenderBytes.{senderLength, slotBytes, slotsBytes, senderBytes, senderIn}
@@ -144,7 +144,7 @@ module _ (bytes : List ℕ) (long : senderLength ≤ length bytes) (store : List
             × (blockWritten bytes store n u y block answer ≡ cond t (bufferAfterBlock (senderIn bytes) store block n u y) block)
         go true e =
             rw (le-ltb (length bytes) senderLength long, le-ltb (length answer) blockAnswerLength (leb-true _ _ e))
-            (refl, twice (eqb (blockRefusal (senderIn bytes) store block n u y) 0) (blockBuffer block (blockBits (ruled (senderIn bytes) (enableBits y)) store n u (systemPackets y))) block)
+            (refl, twice (eqb (blockRefusal (senderIn bytes) store block n u y) 0) (blockBuffer block (blockBits (senderIn bytes) store n u (systemPackets y) (enableBits y))) block)
         go false e =
             rw (le-ltb (length bytes) senderLength long, lt-ltb (length answer) blockAnswerLength (leb-false _ _ e)) (refl, refl)
 

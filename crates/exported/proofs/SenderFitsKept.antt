@@ -24,7 +24,7 @@ use Rattle.picking.proofs.PickingLaws.{pick-waits, pick-lt, slotInRange-advance
 use Rattle.writing.specs.NextFrame.{nextFrame}
 use Rattle.sender.specs.Blocks.{Filled, System, systemPackets, enableBits, ruled, full, andThen, fill, waiting, fillUp, blockFilled, blockRefusal, senderAfterBlock}
 use Rattle.sender.proofs.Filling.{placing-cases}
-use Rattle.sender.proofs.InForce.{inForce-fits, ruled-in-range}
+use Rattle.sender.proofs.InForce.{inForce-at-most-15, accepted-ruled-in-range}
 use Rattle.sender_layout.specs.Fits.{SenderSlotFits, SenderFits}
 use Rattle.exported.proofs.Fitting.{Four-set, listing-fits}
 
@@ -127,9 +127,9 @@ fits-made s store block n u y fits = go (eqb (blockRefusal s store block n u y) 
     now : Sender
     now = ruled s (enableBits y)
 
-    go : (t : Bool) → eqb (blockRefusal s store block n u y) 0 ≡ t → SenderFits (cond t (blockFilled now store u (systemPackets y) .sender) s)
+    go : (t : Bool) → eqb (blockRefusal s store block n u y) 0 ≡ t → SenderFits (cond t (blockFilled s store u (systemPackets y) (enableBits y) .sender) s)
     go true e =
         let z : blockRefusal s store block n u y ≡ 0 = eqb-true _ 0 e in
-        fits-filled (waiting now) now store _ _ u (ruled-in-range s store block n u y z)
-        (record { circuits = fits .circuits; slots = fits .slots; last = fits .last; enable = omega (arith, inForce-fits s store block n u y z) })
+        fits-filled (waiting now) now store _ _ u (accepted-ruled-in-range s store block n u y z)
+        (record { circuits = fits .circuits; slots = fits .slots; last = fits .last; enable = omega (arith, inForce-at-most-15 s store block n u y z) })
     go false e = fits

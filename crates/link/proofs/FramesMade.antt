@@ -177,7 +177,7 @@ made-effect noEffect q right lent queues = (queues, tt)
 made-effect (sendsMessage c priority repetition message) q right lent queues =
     (right-offer priority message (right .1) (right .2) lent q c repetition queues, tt)
 made-effect (takesFrames t) q right lent queues =
-    let taken = made-takeFrames (ruledQueues q (t .enable)) _ _ (t .usable) queues in
+    let taken = made-takeFrames (ruledQueues q (t .newEnable)) _ _ (t .usable) queues in
     (taken .0, (record { before = lent; frames = taken .1 }, tt))
 
 made-effects : (xs : List Effect) (q : Queues) → AllRight q xs → AllAre EffectLent xs → RightQueues q → AllAre MadeBlock (blocksTaken q xs)

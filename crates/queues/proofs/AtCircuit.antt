@@ -175,9 +175,9 @@ module _ (k : Circuit) where
     pub circuits-stay : circuits (r .queues) ≡ circuits (q .queues)
 
   -- nothing was, whichever enable bits are in force then
-  at-ruled : (q : Queues) (enable : Option ℕ) → AtCircuit q [] [] (ruledQueues q enable)
+  at-ruled : (q : Queues) (newEnable : Option ℕ) → AtCircuit q [] [] (ruledQueues q newEnable)
   unfolding messagesAt those copiesSent placedAt ruledQueues
-  at-ruled q enable = record { copies = append-nil (queueFor (q .queues) k .copies); counted = λ later h. h; circuits-stay = refl }
+  at-ruled q newEnable = record { copies = append-nil (queueFor (q .queues) k .copies); counted = λ later h. h; circuits-stay = refl }
 
   at-none : (q : Queues) → AtCircuit q [] [] q
   unfolding ruledQueues inForce
@@ -277,8 +277,8 @@ module _ (k : Circuit) where
   at-effect noEffect q apart right = at-none q
   at-effect (sendsMessage d priority repetition message) q apart right = at-offer q d priority repetition message apart (right .0) (right .1) (right .2)
   at-effect (takesFrames t) q apart right =
-      let now : Queues = ruledQueues q (t .enable) in
-      rw append-nil (at-append q [] [] now [] _ _ (at-ruled q (t .enable)) (at-takeUpTo (copiesInQueues (q .queues)) now _ _ (t .usable) apart))
+      let now : Queues = ruledQueues q (t .newEnable) in
+      rw append-nil (at-append q [] [] now [] _ _ (at-ruled q (t .newEnable)) (at-takeUpTo (copiesInQueues (q .queues)) now _ _ (t .usable) apart))
 
   pub at-effects : (xs : List Effect) (q : Queues) → Apart q → AllRight q xs
       → AtCircuit q (messagesSent q xs) (framesOf (blocksTaken q xs)) (queuesAfter q xs)

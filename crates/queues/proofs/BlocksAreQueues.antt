@@ -7,8 +7,8 @@ use mathlib.Core.Path.{_≡_, refl, sym, ap, ap₂, _∙_}
 use borrow.Author.Tests.{eqb-true}
 use Rattle.packet.specs.Circuits.{circuitsOf, listRefusal}
 use Rattle.offering.specs.declared.Sender.{Sender}
-use Rattle.sender.specs.Blocks.{blockOf, System, systemPackets, enableBits, ruled, blockPackets, blockBits, blockRefusal}
-use Rattle.sender.proofs.InForce.{inForce-fits}
+use Rattle.sender.specs.Blocks.{blockOf, System, systemPackets, enableBits, blockPackets, blockBits, blockRefusal}
+use Rattle.sender.proofs.InForce.{inForce-at-most-15}
 use Rattle.sender.proofs.UsedAtMostU.{take-bufferAfterBlock}
 use Rattle.queues.specs.Queues.{Queues, freshQueues}
 use Rattle.queues.specs.Effects.{noEffect, queuesAfterEffect, bitsOfBlock, takenBy, blocksTaken}
@@ -19,10 +19,10 @@ use Rattle.queues.proofs.StandsCalls.{stands-fresh, stands-call}
 
 -- the block of one call
 block-taken : (s : Sender) (store : List ℕ) (q : Queues) (n u : ℕ) (buffer : List ℕ) (y : System) → Stands s store q → blockRefusal s store buffer n u y ≡ 0
-    → blockBits (ruled s (enableBits y)) store n u (systemPackets y) ∷ [] ≡ map bitsOfBlock (takenBy q (effect (block n u buffer y)))
+    → blockBits s store n u (systemPackets y) (enableBits y) ∷ [] ≡ map bitsOfBlock (takenBy q (effect (block n u buffer y)))
 unfolding blockBits blockPackets takenBy effect bitsOfBlock
 block-taken s store q n u buffer y h e =
-    ap (λ ps. blockOf n (systemPackets y ++ ps) ∷ []) (stands-block s store q _ h (inForce-fits s store buffer n u y e) .packets)
+    ap (λ ps. blockOf n (systemPackets y ++ ps) ∷ []) (stands-block s store q _ h (inForce-at-most-15 s store buffer n u y e) .packets)
 
 made-accepted : (call : Call) (e : End) (q : Queues) → Stands (e .sender) (e .store) q → accepted e call ≡ true
     → made e call ≡ map bitsOfBlock (takenBy q (effect call))

@@ -13,7 +13,7 @@ use Rattle.writing.specs.NextFrame.{nextFrame}
 use Rattle.sender.specs.Blocks.{Filled, full, andThen, fill, fillUp, System, systemPackets, enableBits, inForce, ruled, blockFilled, blockRefusal, senderAfterBlock}
 use Rattle.sender.proofs.Filling.{placing-cases}
 use Rattle.queues.specs.Calls.{Call, offer, block, End, freshEnd, accepted, afterCall, afterCalls}
-use Rattle.queues.specs.EnableBits.{enableOf, enablesSent, lastOr, enableAfter, EnableInForce}
+use Rattle.queues.specs.EnableBits.{enableAsked, enablesSent, lastOr, enableAfter, EnableInForce}
 
 -- filling leaves them
 fill-enable : (n : ℕ) (s : Sender) (store : List ℕ) (at enable u : ℕ) → fill n s store at enable u .sender .enable ≡ s .enable
@@ -33,8 +33,8 @@ inForce-lastOr held y = go (y .wanted) refl
     go false e = rw (e, enableBits)
 
 -- an accepted call, and a refused one
-pub enable-call : (call : Call) (e : End) → afterCall e call .sender .enable ≡ lastOr (e .sender .enable) (cond (accepted e call) (enableOf call) [])
-unfolding afterCall accepted enableOf senderAfterOffer offeredSender ruled blockFilled fillUp senderAfterBlock lastOr
+pub enable-call : (call : Call) (e : End) → afterCall e call .sender .enable ≡ lastOr (e .sender .enable) (cond (accepted e call) (enableAsked call) [])
+unfolding afterCall accepted enableAsked senderAfterOffer offeredSender ruled blockFilled fillUp senderAfterBlock lastOr
 enable-call (offer c priority repetition message) e = go (eqb (offerRefusal (e .sender) (e .store) c priority repetition message) 0)
   where
     go : (b : Bool) → cond b (offeredSender (e .sender) c priority repetition message) (e .sender) .enable ≡ lastOr (e .sender .enable) (cond b [] [])
@@ -42,7 +42,7 @@ enable-call (offer c priority repetition message) e = go (eqb (offerRefusal (e .
     go false = refl
 enable-call (block n u buffer y) e = go (eqb (blockRefusal (e .sender) (e .store) buffer n u y) 0)
   where
-    go : (b : Bool) → cond b (blockFilled (ruled (e .sender) (enableBits y)) (e .store) u (systemPackets y) .sender) (e .sender) .enable
+    go : (b : Bool) → cond b (blockFilled (e .sender) (e .store) u (systemPackets y) (enableBits y) .sender) (e .sender) .enable
         ≡ lastOr (e .sender .enable) (cond b (cond (y .wanted) (y .enable ∷ []) []) [])
     go true = fill-enable _ (ruled (e .sender) (enableBits y)) (e .store) _ _ u ∙ inForce-lastOr (e .sender .enable) y
     go false = refl
@@ -56,7 +56,7 @@ enable-calls : (calls : List Call) (e : End) → afterCalls e calls .sender .ena
 unfolding afterCalls enablesSent lastOr
 enable-calls [] e = refl
 enable-calls (call ∷ calls) e =
-    let now : List ℕ = cond (accepted e call) (enableOf call) [] in
+    let now : List ℕ = cond (accepted e call) (enableAsked call) [] in
     let later : List ℕ = enablesSent (afterCall e call) calls in
     enable-calls calls (afterCall e call)
     ∙ ap (λ held. lastOr held later) (enable-call call e)

@@ -1,10 +1,10 @@
 -- The queues at work: two circuits, a message at each, the second in two copies and of the higher priority, and a block of 256 bits. The copies
--- of the higher priority come first, and all of them have room.
+-- of the higher priority come first, and all of them have room. Then the same messages in blocks whose enable bits hold over.
 use Prim.Native.Nat.{ℕ}
 use mathlib.Core.Bool.{true, false, xor}
 use mathlib.Core.List.{List, [], _∷_, map}
 use mathlib.Core.Path.{_≡_, refl, ap, _∙_}
-use lib.ListN.{replicate}
+use lib.ListN.{take, replicate}
 use Rattle.bits.specs.Bits.{odd, lowBits, byteBits, bitsOf}
 use Rattle.fcs.specs.Fcs.{poly, divided, fcsBit, fcsRun, preset, complement, fcsOf, lowFirst}
 use Rattle.hdlc.specs.Stuffing.{stuffFrom, stuff}
@@ -21,8 +21,10 @@ use Rattle.writing.specs.PacketParts.{packetAt}
 use Rattle.writing.specs.NextFrame.{nextPacket, nextFrame}
 use Rattle.sender.specs.Blocks.{framesBits, flaggedFrames, full, andThen, placing, fill, copiesIn, waiting, fillUp, System, systemPackets, enableBits, inForce, ruled, blockFilled, wrongSize, shortBuffer, wrongSystem, blockRefusal, senderAfterBlock}
 use Rattle.queues.specs.Queues.{freshQueue, freshQueues, queueAt, copyOf, copiesFrom, messageCopies, messageFor, offered, offerQueues, frontHas, firstQueue, pickQueueFrom, pickQueue, behindFirst, behind, serveQueues, ruledQueues, Placed, takenNone, andTaken, takingFirst, taking, takeUpTo, copiesInQueues, takeFrames}
-use Rattle.queues.specs.Effects.{takenFor, TakenBlock, bitsOfBlock, queuesAfterEffect, takenBy, blocksTaken}
-use Rattle.queues.specs.Calls.{Call, offer, block, freshEnd, accepted, afterCall, effect, effectOf, effects, blocksMade}
+use Rattle.queues.specs.Effects.{takenFor, TakenBlock, packetsTaken, bitsOfBlock, queuesAfterEffect, takenBy, queuesAfter, blocksTaken}
+use Rattle.queues.specs.Calls.{Call, offer, block, freshEnd, accepted, afterCall, afterCalls, effect, effectOf, effects, blocksMade}
+use Rattle.queues.specs.Sent.{framesOf}
+use Rattle.queues.specs.EnableBits.{enableAsked, enablesSent, lastOr, enableAfter, packetsPlaced}
 use Rattle.queues.proofs.BlocksAreQueues.{blocks-are-queues}
 
 list : List ℕ
@@ -71,18 +73,22 @@ made-example : blocksMade (freshEnd list (replicate 16384 0)) calls ≡ map bits
 unfolding list circuitsOf anyOf wrongLength addressFF wrongExtension alike twoAlike circuitsRefusal listRefusal
 made-example = blocks-are-queues list (replicate 16384 0) calls refl ∙ ap (map bitsOfBlock) taken-example
 
--- enable bits that hold over: a system packet with only priority 1 enabled, a block without one, a refused one, and one with all enabled
+-- enable bits that hold over: a system packet with only priority 1 enabled, blocks without one, which are lent other bits, a refused one, and one with
+-- all enabled
 wanting : ℕ → System
 wanting enable = record { wanted = true; enable = enable; code = 0; information = [] }
+
+notWanting : ℕ → System
+notWanting enable = record { wanted = false; enable = enable; code = 0; information = [] }
 
 heldCalls : List Call
 heldCalls =
     offer 0 1 0 (0xff ∷ []) ∷
     offer 1 2 1 (0x7e ∷ 0x7e ∷ []) ∷
     block 256 256 (replicate 32 0) (wanting 2) ∷
-    block 256 256 (replicate 32 0) nothingWanted ∷
+    block 256 256 (replicate 32 0) (notWanting 15) ∷
     block 256 256 (replicate 32 0) (wanting 16) ∷
-    block 256 256 (replicate 32 0) nothingWanted ∷
+    block 256 256 (replicate 32 0) (notWanting 15) ∷
     block 256 256 (replicate 32 0) (wanting 15) ∷
     []
 
@@ -95,8 +101,11 @@ heldBlocks =
     record { size = 256; before = (0xff ∷ 0xcf ∷ 0 ∷ []) ∷ []; frames = second ∷ second ∷ [] } ∷
     []
 
-held-example : blocksTaken (freshQueues (circuitsOf list)) (effects (freshEnd list (replicate 16384 0)) heldCalls) ≡ heldBlocks
-unfolding list nothingWanted wanting heldCalls heldBlocks first second
+-- the blocks, the bits in force behind the refused one, and what the first places under its own
+held-example : (blocksTaken (freshQueues (circuitsOf list)) (effects (freshEnd list (replicate 16384 0)) heldCalls) ≡ heldBlocks)
+    × (enableAfter list (replicate 16384 0) (take 6 heldCalls) ≡ 2)
+    × (packetsPlaced list (replicate 16384 0) (take 2 heldCalls) (block 256 256 (replicate 32 0) (wanting 2)) ≡ first .copy .packet ∷ [])
+unfolding list notWanting wanting heldCalls heldBlocks first second
     odd lowBits byteBits bitsOf xor poly divided fcsBit fcsRun preset complement fcsOf lowFirst stuffFrom stuff flag withFcs frame
     circuitsOf anyOf wrongLength addressFF wrongExtension alike twoAlike circuitsRefusal listRefusal listed noCircuit recordOf listing
     longest header headed segment packets linkOf control extensionOf packetOf systemPacket
@@ -109,4 +118,5 @@ unfolding list nothingWanted wanting heldCalls heldBlocks first second
     frontHas firstQueue pickQueueFrom pickQueue behindFirst behind serveQueues ruledQueues
     takenNone andTaken takingFirst taking takeUpTo copiesInQueues takeFrames
     takenFor queuesAfterEffect takenBy blocksTaken accepted afterCall effect effectOf effects
-held-example = refl
+    packetsTaken queuesAfter afterCalls framesOf enableAsked enablesSent lastOr enableAfter packetsPlaced
+held-example = (refl, refl, refl)

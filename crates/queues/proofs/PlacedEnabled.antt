@@ -18,13 +18,13 @@ use Rattle.writing.specs.PacketParts.{packetAt}
 use Rattle.writing.specs.NextFrame.{nextPacket, nextFrame}
 use Rattle.sender.specs.Blocks.{placedPackets, Filled, full, andThen, fill, fillUp, System, systemPackets, enableBits, inForce, ruled, blockFilled, blockRefusal}
 use Rattle.sender.proofs.Filling.{placing-cases}
-use Rattle.sender.proofs.InForce.{inForce-fits, ruled-in-range}
+use Rattle.sender.proofs.InForce.{inForce-at-most-15, accepted-ruled-in-range}
 use Rattle.queues.specs.Queues.{Queues}
 use Rattle.queues.specs.Effects.{BlockAsked, noEffect, packetsTaken, takenBy}
 use Rattle.queues.specs.Calls.{Call, offer, block, End, freshEnd, accepted, afterCall, afterCalls, effect, effectOf}
 use Rattle.queues.specs.Sent.{framesOf}
 use Rattle.queues.specs.Stands.{Stands}
-use Rattle.queues.specs.EnableBits.{enableOf, lastOr, enableAfter, EnableInForce, packetsPlaced, PlacedEnabled}
+use Rattle.queues.specs.EnableBits.{enableAsked, lastOr, enableAfter, EnableInForce, packetsPlaced, PlacedEnabled}
 use Rattle.queues.proofs.StandsBlock.{stands-block}
 use Rattle.queues.proofs.StandsCalls.{stands-calls}
 use Rattle.queues.proofs.EnableInForce.{inForce-lastOr, enable-call, enable-in-force}
@@ -55,21 +55,21 @@ enabled-fill (suc n) s store at enable u range =
 
 -- a block, under the enable bits in force in it
 enabled-block : (s : Sender) (store : List ℕ) (u : ℕ) (y : System) → inRange (ruled s (enableBits y)) ≡ true
-    → AllEnabled (inForce (s .enable) (enableBits y)) (placedPackets (blockFilled (ruled s (enableBits y)) store u (systemPackets y) .frames))
+    → AllEnabled (inForce (s .enable) (enableBits y)) (placedPackets (blockFilled s store u (systemPackets y) (enableBits y) .frames))
 unfolding blockFilled fillUp ruled
 enabled-block s store u y range = enabled-fill _ (ruled s (enableBits y)) store _ _ u range
 
 -- the block of an accepted call
 enabled-accepted : (call : Call) (e : End) (q : Queues) → Stands (e .sender) (e .store) q → accepted e call ≡ true
-    → AllEnabled (lastOr (e .sender .enable) (enableOf call)) (packetsTaken (framesOf (takenBy q (effect call))))
-unfolding accepted effect enableOf takenBy framesOf packetsTaken AllAre
+    → AllEnabled (lastOr (e .sender .enable) (enableAsked call)) (packetsTaken (framesOf (takenBy q (effect call))))
+unfolding accepted effect enableAsked takenBy framesOf packetsTaken AllAre
 enabled-accepted (offer c priority repetition message) e q h a = tt
 enabled-accepted (block n u buffer y) e q h a =
     let s = e .sender in
     let z : blockRefusal s (e .store) buffer n u y ≡ 0 = eqb-true (blockRefusal s (e .store) buffer n u y) 0 a in
-    let asked : BlockAsked = record { size = n; before = systemPackets y; enable = enableBits y; usable = u } in
-    let same = stands-block s (e .store) q asked h (inForce-fits s (e .store) buffer n u y z) .packets in
-    rw (append-nil, ← same, ← inForce-lastOr (s .enable) y) (enabled-block s (e .store) u y (ruled-in-range s (e .store) buffer n u y z))
+    let asked : BlockAsked = record { size = n; before = systemPackets y; newEnable = enableBits y; usable = u } in
+    let same = stands-block s (e .store) q asked h (inForce-at-most-15 s (e .store) buffer n u y z) .packets in
+    rw (append-nil, ← same, ← inForce-lastOr (s .enable) y) (enabled-block s (e .store) u y (accepted-ruled-in-range s (e .store) buffer n u y z))
 
 -- a call, accepted or refused: the bits in force after it enable what it places
 enabled-call : (call : Call) (e : End) (q : Queues) → Stands (e .sender) (e .store) q
@@ -78,7 +78,7 @@ unfolding effectOf takenBy framesOf packetsTaken AllAre
 enabled-call call e q h = rw (enable-call call e) (go (accepted e call) refl)
   where
     go : (b : Bool) → accepted e call ≡ b
-        → AllEnabled (lastOr (e .sender .enable) (cond b (enableOf call) [])) (packetsTaken (framesOf (takenBy q (cond b (effect call) noEffect))))
+        → AllEnabled (lastOr (e .sender .enable) (cond b (enableAsked call) [])) (packetsTaken (framesOf (takenBy q (cond b (effect call) noEffect))))
     go true a = enabled-accepted call e q h a
     go false a = tt
 

@@ -90,24 +90,24 @@ stands-fillUp s store q at u h =
     (rw (waiting-copiesInQueues s store q h) (FilledAs-fill (copiesInQueues (q .queues)) s store q at (s .enable) u h))
 
 -- the record under the enable bits of a block, where they are at most 15, stands for the queues under them
-stands-ruled : (s : Sender) (store : List ℕ) (q : Queues) (enable : Option ℕ) → Stands s store q → inForce (s .enable) enable ≤ 15
-    → Stands (ruled s enable) store (ruledQueues q enable)
+stands-ruled : (s : Sender) (store : List ℕ) (q : Queues) (newEnable : Option ℕ) → Stands s store q → inForce (s .enable) newEnable ≤ 15
+    → Stands (ruled s newEnable) store (ruledQueues q newEnable)
 unfolding ruled ruledQueues slotAt messageAt queueAt
-stands-ruled s store q enable h few =
+stands-ruled s store q newEnable h few =
     record {
-      range = inRange-ruled s enable (h .range) few;
+      range = inRange-ruled s newEnable (h .range) few;
       places = h .places;
       slots = h .slots;
       count = h .count;
       last = h .last;
-      enable = ap (λ held. inForce held enable) (h .enable);
+      enable = ap (λ held. inForce held newEnable) (h .enable);
       each = h .each;
     }
 
 -- our frames in a block are the copies that the block rule takes from the queues
-pub stands-block : (s : Sender) (store : List ℕ) (q : Queues) (t : BlockAsked) → Stands s store q → inForce (s .enable) (t .enable) ≤ 15
-    → FilledAs store (blockFilled (ruled s (t .enable)) store (t .usable) (t .before)) (takenFor q t)
+pub stands-block : (s : Sender) (store : List ℕ) (q : Queues) (t : BlockAsked) → Stands s store q → inForce (s .enable) (t .newEnable) ≤ 15
+    → FilledAs store (blockFilled s store (t .usable) (t .before) (t .newEnable)) (takenFor q t)
 unfolding blockFilled takenFor
 stands-block s store q t h few =
-    stands-fillUp (ruled s (t .enable)) store (ruledQueues q (t .enable)) (length (flaggedFrames (t .before))) (t .usable)
-    (stands-ruled s store q (t .enable) h few)
+    stands-fillUp (ruled s (t .newEnable)) store (ruledQueues q (t .newEnable)) (length (flaggedFrames (t .before))) (t .usable)
+    (stands-ruled s store q (t .newEnable) h few)

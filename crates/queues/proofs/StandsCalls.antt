@@ -20,8 +20,8 @@ use Rattle.offering.specs.Record.{freshSlot, fresh, noSlot, slotAt, messageAt, 
 use Rattle.offering.specs.Offering.{offerRefusal, offeredSender, offeredStore, senderAfterOffer, storeAfterOffer}
 use Rattle.offering.proofs.Ranges.{facts-inRange}
 use Rattle.offering.proofs.Offers.{OfferFacts, offerRefusal-zero}
-use Rattle.sender.specs.Blocks.{System, systemPackets, enableBits, ruled, blockFilled, blockRefusal, senderAfterBlock}
-use Rattle.sender.proofs.InForce.{inForce-fits}
+use Rattle.sender.specs.Blocks.{System, systemPackets, enableBits, blockFilled, blockRefusal, senderAfterBlock}
+use Rattle.sender.proofs.InForce.{inForce-at-most-15}
 use Rattle.queues.specs.Queues.{Queues, freshQueue, freshQueues, queueAt, copiesFrom}
 use Rattle.queues.specs.Effects.{Effect, noEffect, sendsMessage, takesFrames, queuesAfterEffect, queuesAfter}
 use Rattle.queues.specs.Calls.{Call, offer, block, End, freshEnd, accepted, afterCall, afterCalls, effect, effectOf, effects}
@@ -105,11 +105,11 @@ module _ (s : Sender) (store : List ℕ) (q : Queues) (h : Stands s store q) whe
   stands-offer-call c priority repetition message false e = h
 
   stands-block-call : (n u : ℕ) (buffer : List ℕ) (y : System) (b : Bool) → eqb (blockRefusal s store buffer n u y) 0 ≡ b
-      → Stands (cond b (blockFilled (ruled s (enableBits y)) store u (systemPackets y) .sender) s) store
+      → Stands (cond b (blockFilled s store u (systemPackets y) (enableBits y) .sender) s) store
       (queuesAfterEffect q (cond b (effect (block n u buffer y)) noEffect))
   unfolding queuesAfterEffect effect
   stands-block-call n u buffer y true e =
-      stands-block s store q _ h (inForce-fits s store buffer n u y (eqb-true (blockRefusal s store buffer n u y) 0 e)) .stands
+      stands-block s store q _ h (inForce-at-most-15 s store buffer n u y (eqb-true (blockRefusal s store buffer n u y) 0 e)) .stands
   stands-block-call n u buffer y false e = h
 
 -- record and store follow a call's effect

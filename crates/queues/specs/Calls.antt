@@ -49,7 +49,7 @@ afterCalls e (call ∷ calls) = afterCalls (afterCall e call) calls
 -- what an accepted call does to the queues
 unfoldable pub effect : Call → Effect
 effect (offer c priority repetition message) = sendsMessage c priority repetition message
-effect (block n u buffer y) = takesFrames (record { size = n; before = systemPackets y; enable = enableBits y; usable = u })
+effect (block n u buffer y) = takesFrames (record { size = n; before = systemPackets y; newEnable = enableBits y; usable = u })
 
 -- "A refused call sends and places nothing"
 unfoldable pub effectOf : End → Call → Effect

@@ -12,7 +12,7 @@ use Rattle.queues.specs.Queues.{Message, messageFor, Queues, queueAt, of
 pub record BlockAsked : Type 0 where
   pub size : ℕ
   pub before : List (List ℕ)
-  pub enable : Option ℕ
+  pub newEnable : Option ℕ
   pub usable : ℕ
 
 -- what a call does to the queues: nothing; it sends a message, of a priority and a repetition, at a circuit number; or it takes the frames of a block
@@ -26,7 +26,7 @@ pub data Effect : Type 0 where
 -- the frames that the block rule takes from the queues under the enable bits in force, behind those of the packets before them
 unfoldable pub takenFor : Queues → BlockAsked → Taken
 takenFor q t =
-    let now = ruledQueues q (t .enable) in
+    let now = ruledQueues q (t .newEnable) in
     takeFrames now (length (flaggedFrames (t .before))) (now .enable) (t .usable)
 
 -- a block by what is in it: N, the packets that stand before ours, and our frames

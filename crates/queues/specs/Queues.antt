@@ -136,7 +136,7 @@ serveQueues q c = record { queues = set (q .queues) c (behind (queueAt q c)); la
 
 -- the queues that a block takes from: its system packet's enable bits are in force, or those before it
 unfoldable pub ruledQueues : Queues → Option ℕ → Queues
-ruledQueues q enable = record { queues = q .queues; last = q .last; enable = inForce (q .enable) enable }
+ruledQueues q newEnable = record { queues = q .queues; last = q .last; enable = inForce (q .enable) newEnable }
 
 -- a frame placed: the circuit, and the copy
 pub record Placed : Type 0 where

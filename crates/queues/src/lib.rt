@@ -1,5 +1,5 @@
-// What the sender's calls mean, as queues of waiting copies: no code, only definitions and theorems, and the functions that carry what is promised of the
-// enable bits (document 02, ask 4).
+// What the sender's calls mean, as queues of waiting copies: no code, only definitions, theorems, and two functions that carry those of document 02,
+// ask 4.
 ghost use Rattle.queues.specs.EnableBits.{EnableInForce, PlacedEnabled};
 
 // The enable bits in force are those of the last system packet sent.

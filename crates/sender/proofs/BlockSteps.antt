@@ -6,6 +6,7 @@ use native.Mathlib.Nat.{zero-add}
 use native.Mathlib.Omega.{arith}
 use mathlib.Core.Bool.{Bool, true, false}
 use mathlib.Core.List.{List}
+use mathlib.Core.Option.{Option}
 use lib.ListN.{length}
 use lib.Dec.{eqb}
 use borrow.Author.Tests.{ne-eqb}
@@ -39,26 +40,27 @@ use Rattle.sender.proofs.UsedBits.{usedBits-behind}
 use Rattle.sender.proofs.UsedAtMostU.{used-at-most-U}
 use Rattle.sender.proofs.OpeningBits.{length-opening}
 use Rattle.sender.proofs.BlockRefusals.{Accepted, accepted}
-use Rattle.sender.proofs.InForce.{ruled-in-range}
+use Rattle.sender.proofs.InForce.{accepted-ruled-in-range}
 use Rattle.sender.proofs.BlockBits.{Closed-blockBuffer}
 
 -- frames written behind those of any packets before them
-module _ (s : Sender) (store : List ℕ) (u : ℕ) (before : List (List ℕ)) {old b₁ b₂ : List ℕ} {at : ℕ} {r : Fill}
-    (opened : Written old 0 (flaggedFrames before) b₁ at) (f : FramesWritten b₁ at (fillUp s store at (s .enable) u) b₂ r) where
-  FramesWritten-block : FramesWritten b₁ at (blockFilled s store u before) b₂ r
+module _ (s : Sender) (store : List ℕ) (u : ℕ) (before : List (List ℕ)) (newEnable : Option ℕ) {old b₁ b₂ : List ℕ} {at : ℕ} {r : Fill}
+    (opened : Written old 0 (flaggedFrames before) b₁ at)
+    (f : FramesWritten b₁ at (fillUp (ruled s newEnable) store at (ruled s newEnable .enable) u) b₂ r) where
+  FramesWritten-block : FramesWritten b₁ at (blockFilled s store u before newEnable) b₂ r
   unfolding blockFilled
   FramesWritten-block =
       let e : at ≡ length (flaggedFrames before) = opened .behind ∙ zero-add (length (flaggedFrames before)) in
       rw (← e) f
 
-  Written-used : Written old 0 (usedBits s store u before) b₂ (r .at)
+  Written-used : Written old 0 (usedBits s store u before newEnable) b₂ (r .at)
   Written-used =
-      let ours = placedPackets (blockFilled s store u before .frames) in
-      rw (usedBits-behind s store u before)
+      let ours = placedPackets (blockFilled s store u before newEnable .frames) in
+      rw (usedBits-behind s store u before newEnable)
       (Written-append (flaggedFrames before) (framesBits ours) opened (FramesWritten-block .written))
 
-  used-end : r .at ≡ length (usedBits s store u before)
-  used-end = Written-used .behind ∙ zero-add (length (usedBits s store u before))
+  used-end : r .at ≡ length (usedBits s store u before newEnable)
+  used-end = Written-used .behind ∙ zero-add (length (usedBits s store u before newEnable))
 
 module _ (s : Sender) (store old : List ℕ) (n u : ℕ) (y : System) where
   -- the record with these enable bits
@@ -87,24 +89,21 @@ module _ (s : Sender) (store old : List ℕ) (n u : ℕ) (y : System) where
       unfolding ruled
       before-frames {enable} e =
           let within : at ≤ u = omega (arith, opened .behind, length-opening y (known .allowed), known) in
-          let range : inRange (under enable) ≡ true = rw e (ruled-in-range s store old n u y h) in
+          let range : inRange (under enable) ≡ true = rw e (accepted-ruled-in-range s store old n u y h) in
           (range, (known .store-long, (within, omega (arith, l₁, known), omega (arith, known))))
 
       -- and the frames are, under the enable bits in force
       module _ {enable : ℕ} {b₂ : List ℕ} {r : Fill} (e : enable ≡ inForce (s .enable) (enableBits y))
           (f : FramesWritten b₁ at (fillUp (under enable) store at enable u) b₂ r) (l₂ : length b₂ ≡ length b₁) where
-        abbrev now : Sender
-        now = ruled s (enableBits y)
-
-        frames : FramesWritten b₁ at (fillUp now store at (now .enable) u) b₂ r
+        frames : FramesWritten b₁ at (fillUp (ruled s (enableBits y)) store at (ruled s (enableBits y) .enable) u) b₂ r
         unfolding ruled
         frames = rw (← e) f
 
         abbrev used : List Bool
-        used = usedBits now store u (systemPackets y)
+        used = usedBits s store u (systemPackets y) (enableBits y)
 
         end : r .at ≡ length used
-        end = used-end now store u (systemPackets y) opened frames
+        end = used-end s store u (systemPackets y) (enableBits y) opened frames
 
         used-le : length used ≤ u
         used-le = used-at-most-U s store old n u y h
@@ -117,8 +116,8 @@ module _ (s : Sender) (store old : List ℕ) (n u : ℕ) (y : System) where
             → BlockCalled s store old n u y new (record { made = Block (r .placed) (r .at); sender = r .sender })
         unfolding senderAfterBlock bufferAfterBlock answerToBlock madeOf usedBits blockBits blockOf
         BlockCalled-made {new} closed ho hn =
-            let filling = FramesWritten-block now store u (systemPackets y) opened frames in
-            let written = Written-used now store u (systemPackets y) opened frames in
+            let filling = FramesWritten-block s store u (systemPackets y) (enableBits y) opened frames in
+            let written = Written-used s store u (systemPackets y) (enableBits y) opened frames in
             record {
               sender = rw h (filling .sender);
               made = rw (h, filling .placed, end);

@@ -12,16 +12,16 @@ use Rattle.sender.specs.BlockCalls.{Allowed}
 use Rattle.sender.proofs.BlockRefusals.{Accepted, accepted}
 
 -- a record in range is in range under other bits, if these are at most 15
-pub inRange-ruled : (s : Sender) (enable : Option ℕ) → inRange s ≡ true → inForce (s .enable) enable ≤ 15 → inRange (ruled s enable) ≡ true
+pub inRange-ruled : (s : Sender) (newEnable : Option ℕ) → inRange s ≡ true → inForce (s .enable) newEnable ≤ 15 → inRange (ruled s newEnable) ≡ true
 unfolding ruled
-inRange-ruled s enable range few =
+inRange-ruled s newEnable range few =
     let f = inRange-facts s range in
-    facts-inRange (ruled s enable) (record { count = f .count; circuits = f .circuits; last = f .last; enable = few; slots = f .slots })
+    facts-inRange (ruled s newEnable) (record { count = f .count; circuits = f .circuits; last = f .last; enable = few; slots = f .slots })
 
 module _ (s : Sender) (store buffer : List ℕ) (n u : ℕ) (y : System) (e : blockRefusal s store buffer n u y ≡ 0) where
-  pub inForce-fits : inForce (s .enable) (enableBits y) ≤ 15
+  pub inForce-at-most-15 : inForce (s .enable) (enableBits y) ≤ 15
   unfolding enableBits inForce
-  inForce-fits =
+  inForce-at-most-15 =
       let a : Accepted s store buffer n u y = accepted s store buffer n u y e in
       go (y .wanted) (a .allowed) (inRange-facts s (a .record-in-range) .enable)
     where
@@ -30,5 +30,5 @@ module _ (s : Sender) (store buffer : List ℕ) (n u : ℕ) (y : System) (e : bl
       go true allowed few = allowed refl .enable
       go false allowed few = few
 
-  pub ruled-in-range : inRange (ruled s (enableBits y)) ≡ true
-  ruled-in-range = inRange-ruled s (enableBits y) (accepted s store buffer n u y e .record-in-range) inForce-fits
+  pub accepted-ruled-in-range : inRange (ruled s (enableBits y)) ≡ true
+  accepted-ruled-in-range = inRange-ruled s (enableBits y) (accepted s store buffer n u y e .record-in-range) inForce-at-most-15

@@ -9,7 +9,7 @@ use lib.Seq.{take-at}
 use Rattle.bits.specs.Bits.{bitsOf, bytesOf}
 use Rattle.bits.proofs.Bits.{bitsOf-append, bitsOf-fillBytes}
 use Rattle.offering.specs.declared.Sender.{Sender}
-use Rattle.sender.specs.Blocks.{blockOf, System, systemPackets, enableBits, ruled, usedBits, blockBits, blockBuffer, blockRefusal, bufferAfterBlock}
+use Rattle.sender.specs.Blocks.{blockOf, System, systemPackets, enableBits, usedBits, blockBits, blockBuffer, blockRefusal, bufferAfterBlock}
 use Rattle.sender.proofs.BlockRefusals.{Accepted, accepted}
 use Rattle.sender.proofs.OpeningBits.{length-opening}
 use Rattle.sender.proofs.UsedBits.{used-within}
@@ -23,16 +23,16 @@ take-blockBuffer old bits n e =
 
 -- "A block has N user bits, of which U may be used"
 module _ (s : Sender) (store buffer : List ℕ) (n u : ℕ) (y : System) (e : blockRefusal s store buffer n u y ≡ 0) where
-  pub used-at-most-U : length (usedBits (ruled s (enableBits y)) store u (systemPackets y)) ≤ u
+  pub used-at-most-U : length (usedBits s store u (systemPackets y) (enableBits y)) ≤ u
   used-at-most-U =
       let a : Accepted s store buffer n u y = accepted s store buffer n u y e in
-      used-within (ruled s (enableBits y)) store u (systemPackets y) (omega (arith, length-opening y (a .allowed), a .least))
+      used-within s store u (systemPackets y) (enableBits y) (omega (arith, length-opening y (a .allowed), a .least))
 
-  length-blockBits : length (blockBits (ruled s (enableBits y)) store n u (systemPackets y)) ≡ n
+  length-blockBits : length (blockBits s store n u (systemPackets y) (enableBits y)) ≡ n
   unfolding usedBits blockBits blockOf
   length-blockBits = rw (length-append, length-replicate) (omega (arith, used-at-most-U, accepted s store buffer n u y e .used))
 
   -- the N bits that the buffer holds then
-  pub take-bufferAfterBlock : take n (bitsOf (bufferAfterBlock s store buffer n u y)) ≡ blockBits (ruled s (enableBits y)) store n u (systemPackets y)
+  pub take-bufferAfterBlock : take n (bitsOf (bufferAfterBlock s store buffer n u y)) ≡ blockBits s store n u (systemPackets y) (enableBits y)
   unfolding bufferAfterBlock
-  take-bufferAfterBlock = rw e (take-blockBuffer buffer (blockBits (ruled s (enableBits y)) store n u (systemPackets y)) n length-blockBits)
+  take-bufferAfterBlock = rw e (take-blockBuffer buffer (blockBits s store n u (systemPackets y) (enableBits y)) n length-blockBits)

@@ -1,11 +1,12 @@
 -- The bits used in a block: those of the frames before ours, and behind them those of ours; they are at most U.
 use Prim.Native.Nat.{ℕ, _≤_}
 use mathlib.Core.List.{List, [], _∷_, _++_, append-assoc}
+use mathlib.Core.Option.{Option}
 use mathlib.Core.Path.{_≡_, refl, sym}
 use lib.ListN.{length, length-append}
 use Rattle.hdlc.specs.Frames.{flag, frame}
 use Rattle.offering.specs.declared.Sender.{Sender}
-use Rattle.sender.specs.Blocks.{framesBits, flaggedFrames, placedPackets, blockFilled, blockPackets, usedBits}
+use Rattle.sender.specs.Blocks.{framesBits, flaggedFrames, placedPackets, ruled, blockFilled, blockPackets, usedBits}
 use Rattle.sender.proofs.Filling.{fillUp-used}
 
 framesBits-append : (ps qs : List (List ℕ)) → framesBits (ps ++ qs) ≡ framesBits ps ++ framesBits qs
@@ -17,12 +18,12 @@ flaggedFrames-append : (ps qs : List (List ℕ)) → flaggedFrames (ps ++ qs) �
 unfolding flaggedFrames
 flaggedFrames-append ps qs = rw (framesBits-append ps qs) (sym (append-assoc flag (framesBits ps) (framesBits qs)))
 
-module _ (s : Sender) (store : List ℕ) (u : ℕ) (before : List (List ℕ)) where
-  pub usedBits-behind : usedBits s store u before
-      ≡ flaggedFrames before ++ framesBits (placedPackets (blockFilled s store u before .frames))
+module _ (s : Sender) (store : List ℕ) (u : ℕ) (before : List (List ℕ)) (newEnable : Option ℕ) where
+  pub usedBits-behind : usedBits s store u before newEnable
+      ≡ flaggedFrames before ++ framesBits (placedPackets (blockFilled s store u before newEnable .frames))
   unfolding usedBits blockPackets
-  usedBits-behind = flaggedFrames-append before (placedPackets (blockFilled s store u before .frames))
+  usedBits-behind = flaggedFrames-append before (placedPackets (blockFilled s store u before newEnable .frames))
 
-  pub used-within : length (flaggedFrames before) ≤ u → length (usedBits s store u before) ≤ u
+  pub used-within : length (flaggedFrames before) ≤ u → length (usedBits s store u before newEnable) ≤ u
   unfolding blockFilled
-  used-within h = rw (usedBits-behind, length-append) (fillUp-used s store (length (flaggedFrames before)) (s .enable) u h)
+  used-within h = rw (usedBits-behind, length-append) (fillUp-used (ruled s newEnable) store (length (flaggedFrames before)) _ u h)

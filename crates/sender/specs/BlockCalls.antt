@@ -20,7 +20,6 @@ use Rattle.sender.specs.Blocks.{
   System,
   systemPackets,
   enableBits,
-  ruled,
   blockFilled,
   usedBits,
   blockRefusal,
@@ -59,10 +58,10 @@ madeNumber (Refused n) = n
 
 -- "frames placed (system excluded)", and "bits used, which are those before the closing ones"
 abbrev pub framesPlaced : Sender → List ℕ → ℕ → System → ℕ
-framesPlaced s store u y = length (blockFilled (ruled s (enableBits y)) store u (systemPackets y) .frames)
+framesPlaced s store u y = length (blockFilled s store u (systemPackets y) (enableBits y) .frames)
 
 abbrev pub bitsUsed : Sender → List ℕ → ℕ → System → ℕ
-bitsUsed s store u y = length (usedBits (ruled s (enableBits y)) store u (systemPackets y))
+bitsUsed s store u y = length (usedBits s store u (systemPackets y) (enableBits y))
 
 unfoldable pub answerToBlock : Sender → List ℕ → List ℕ → ℕ → ℕ → System → Made
 answerToBlock s store buffer n u y = madeOf (blockRefusal s store buffer n u y) (framesPlaced s store u y) (bitsUsed s store u y)

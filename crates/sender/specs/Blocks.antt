@@ -91,7 +91,7 @@ pub record System : Type 0 where
 unfoldable pub systemPackets : System → List (List ℕ)
 systemPackets y = cond (y .wanted) (systemPacket (y .enable) (y .code) (y .information) ∷ []) []
 
--- the system packet's enable bits, if one is wanted
+-- its enable bits, if one is wanted
 unfoldable pub enableBits : System → Option ℕ
 enableBits y = cond (y .wanted) (some (y .enable)) none
 
@@ -103,23 +103,25 @@ inForce held (some enable) = enable
 
 -- the record that a block is made from, with the enable bits in force in it
 unfoldable pub ruled : Sender → Option ℕ → Sender
-ruled s enable = record { circuits = s .circuits; slots = s .slots; last = s .last; enable = inForce (s .enable) enable }
+ruled s newEnable = record { circuits = s .circuits; slots = s .slots; last = s .last; enable = inForce (s .enable) newEnable }
 
--- our frames in a block, behind those of the packets before them, under the record's enable bits
-unfoldable pub blockFilled : Sender → List ℕ → ℕ → List (List ℕ) → Filled
-blockFilled s store u before = fillUp s store (length (flaggedFrames before)) (s .enable) u
+-- our frames in a block, behind those of the packets before them, under the enable bits in force
+unfoldable pub blockFilled : Sender → List ℕ → ℕ → List (List ℕ) → Option ℕ → Filled
+blockFilled s store u before newEnable =
+    let now = ruled s newEnable in
+    fillUp now store (length (flaggedFrames before)) (now .enable) u
 
 -- all packets in a block, in order
-unfoldable pub blockPackets : Sender → List ℕ → ℕ → List (List ℕ) → List (List ℕ)
-blockPackets s store u before = before ++ placedPackets (blockFilled s store u before .frames)
+unfoldable pub blockPackets : Sender → List ℕ → ℕ → List (List ℕ) → Option ℕ → List (List ℕ)
+blockPackets s store u before newEnable = before ++ placedPackets (blockFilled s store u before newEnable .frames)
 
 -- the bits used, "which are those before the closing ones"
-unfoldable pub usedBits : Sender → List ℕ → ℕ → List (List ℕ) → List Bool
-usedBits s store u before = flaggedFrames (blockPackets s store u before)
+unfoldable pub usedBits : Sender → List ℕ → ℕ → List (List ℕ) → Option ℕ → List Bool
+usedBits s store u before newEnable = flaggedFrames (blockPackets s store u before newEnable)
 
 -- its N bits
-unfoldable pub blockBits : Sender → List ℕ → ℕ → ℕ → List (List ℕ) → List Bool
-blockBits s store n u before = blockOf n (blockPackets s store u before)
+unfoldable pub blockBits : Sender → List ℕ → ℕ → ℕ → List (List ℕ) → Option ℕ → List Bool
+blockBits s store n u before newEnable = blockOf n (blockPackets s store u before newEnable)
 
 -- "Bits fill bytes lowest first; spare bits of the last byte are 0; bytes behind it keep their values"
 unfoldable pub blockBuffer : List ℕ → List Bool → List ℕ
@@ -152,8 +154,8 @@ blockRefusal s store buffer n u y =
 -- 02, ask 4)
 unfoldable pub senderAfterBlock : Sender → List ℕ → List ℕ → ℕ → ℕ → System → Sender
 senderAfterBlock s store buffer n u y =
-    cond (eqb (blockRefusal s store buffer n u y) 0) (blockFilled (ruled s (enableBits y)) store u (systemPackets y) .sender) s
+    cond (eqb (blockRefusal s store buffer n u y) 0) (blockFilled s store u (systemPackets y) (enableBits y) .sender) s
 
 unfoldable pub bufferAfterBlock : Sender → List ℕ → List ℕ → ℕ → ℕ → System → List ℕ
 bufferAfterBlock s store buffer n u y =
-    cond (eqb (blockRefusal s store buffer n u y) 0) (blockBuffer buffer (blockBits (ruled s (enableBits y)) store n u (systemPackets y))) buffer
+    cond (eqb (blockRefusal s store buffer n u y) 0) (blockBuffer buffer (blockBits s store n u (systemPackets y) (enableBits y))) buffer

@@ -201,7 +201,7 @@ fn write_block(
 }
 
 // A block of n bits, of which u may be used, made into the buffer from the messages in the store: a system packet, if one is wanted,
-// and the frames that are next.
+// and the frames that are next. The system packet's enable bits are in force from then on.
 pub fn make_block(
     sender: Sender,
     store: &[u8],
