@@ -1,4 +1,6 @@
 -- `offering::Sender::in_range` meets its contract.
+use Prim.Native.Nat.{_<_}
+use native.Mathlib.Omega.{arith}
 use borrow.Author.Needs.{needs}
 use Rattle.bits.proofs.Each.{tests}
 use Rattle.offering.specs.Record.{inRange}
@@ -22,7 +24,10 @@ returns-3 c = rw (← c .before .before .before .refusal .ensures) (search tests
 
 returns-4 : tie.Need-returns-4
 unfolding inRange
-returns-4 c = rw (← c .before .before .before .before .before .refusal .ensures) (search tests)
+returns-4 c =
+    let known = c .before .before .before .before .before in
+    let above : 15 < known .before .before .before .before .args .self .enable = omega (arith, c .if4 .taken) in
+    rw (← known .refusal .ensures) (search tests)
 
 cast-slots-in-range : tie.Need-cast-slots-in-range
 cast-slots-in-range c = search needs
