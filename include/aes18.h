@@ -42,7 +42,7 @@
  * And this is not covered: messages above 4094 bytes or of unknown length [5.2.1.2], at which a receiver tells WRONG; inserting packets into blocks
  * that are made already [6.3.1]; and the channel status, which has to tell of this use of the user bits [5.2.4.2]. An address extension of a system
  * packet [6.2.1.2] is never sent, and skipped by a receiver. Whether the enable bits of a system packet [6.2.1.1] rule later blocks that have none,
- * BS.776 does not say; here they do.
+ * BS.776 does not say; here they do, and gear that takes each block by itself needs a system packet in every block.
  */
 #ifndef AES18_H
 #define AES18_H
@@ -54,7 +54,10 @@
 extern "C" {
 #endif
 
-/* Lengths in bytes of what is lent. Records, stores and answers may be longer; the bytes behind are not looked at and keep their values. */
+/*
+ * Lengths in bytes of what is lent. Records, stores and answers may be longer; the bytes behind are not looked at and keep their values. Header and
+ * archive have to be of one version: an archive made before a record grew takes the longer one too, and leaves its last bytes unwritten.
+ */
 #define AES18_SENDER_RECORD 47
 #define AES18_RECEIVER_RECORD 61
 #define AES18_SENDER_STORE 16384

@@ -1,4 +1,4 @@
-"""Blocks made from document 01 by code of its own (document01.py), compared with what the program `vectors` is held to: the lines behind
+"""Blocks made from documents 01 and 02 by code of its own (document01.py), compared with what the program `vectors` is held to: the lines behind
 "Blocks" in crates/vectors/stdout. With the word --write it writes those lines. Nothing of the proved crates is used here.
 """
 import pathlib
@@ -56,5 +56,5 @@ before, found, behind = HELD.read_text().partition(HEAD)
 if sys.argv[1:] == ["--write"]:
     HELD.write_text(before + HEAD + text)
 elif behind != text:
-    print("tests/blocks: the blocks in crates/vectors/stdout are not what document 01 gives")
+    print("tests/blocks: the blocks in crates/vectors/stdout are not what documents 01 and 02 give")
     sys.exit(1)

@@ -1,4 +1,4 @@
-"""The program `pass` computed from document 01 by code of its own: the same messages are offered, the blocks made (document01.py), torn and read,
+"""The program `pass` computed from documents 01 and 02 by code of its own: the same messages are offered, the blocks made (document01.py), torn and read,
 and what that gives is compared with crates/pass/stdout, to which the program is held. With the word --write it writes that file. Then the sums
 are compared with what was sent: which frames came whole follows from where the bits were torn, and from that the losses and the messages
 handed over (demand 3). Nothing of the proved crates is used here.
@@ -207,7 +207,7 @@ text, wrong = run()
 if sys.argv[1:] == ["--write"]:
     HELD.write_text(text)
 elif HELD.read_text() != text:
-    wrong.append("crates/pass/stdout is not what document 01 gives")
+    wrong.append("crates/pass/stdout is not what documents 01 and 02 give")
 for line in wrong:
     print("tests/pass: " + line)
 sys.exit(1 if wrong else 0)

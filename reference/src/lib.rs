@@ -5,8 +5,8 @@
 //! bits of a framing alone. It is meant to be checked by reading it beside 01 and the change requests, not to be fast or small.
 //!
 //! [`sender::Sender`] and [`receiver::Receiver`] are the two ends with all they remember, [`totals::Totals`] what notices add up to,
-//! [`framing::Framing`] reads packets of whatever circuit, [`line`] is the serial line. [`calls`] has the functions of the C interface, which are given a record as bytes: there an end is built anew from the bytes
-//! in each call.
+//! [`framing::Framing`] reads packets of whatever circuit, [`mod@line`] is the serial line. [`calls`] has the functions of the C interface,
+//! which are given a record as bytes: there an end is built anew from the bytes in each call.
 #![forbid(unsafe_code)]
 
 pub mod bits;

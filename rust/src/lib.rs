@@ -54,16 +54,18 @@
 //!
 //! # Other makers' gear
 //!
-//! Blocks are bit for bit what BS.776, its HDLC framing and the specification (document 01) give. In these places document 01 decides otherwise than
-//! BS.776: the message continuity index (section 5.2.1.1) is sent as 0 and not looked at; no seven ones need stand before a block (6.1.2); no
-//! justification is mandatory (6.3.1); and a block takes packets by priority as long as they fit, with no table of the most packets of a message and
-//! no rule that spreads them over blocks (6.3.2.1). `include/aes18.h` in the repository says what a caller does about them.
+//! Blocks are bit for bit what BS.776, its HDLC framing and the specification (document 01, with document 02's rule of enable bits) give. In these places
+//! document 01 decides otherwise than BS.776: the message continuity index (section 5.2.1.1) is sent as 0 and not looked at; no seven ones need stand
+//! before a block (6.1.2); no justification is mandatory (6.3.1); and a block takes packets by priority as long as they fit, with no table of the most
+//! packets of a message and no rule that spreads them over blocks (6.3.2.1). Whether enable bits (6.2.1.1) rule later blocks that have no system packet, BS.776 does not say;
+//! here they do, and gear that takes each block by itself needs a system packet in every block. `include/aes18.h` in the repository says what a caller
+//! does about the others.
 //!
 //! # Linking
 //!
 //! The build script links the proved static library `libaes18.a`: the one in the folder that the environment variable `AES18_ARCHIVE` names, or
 //! else the one that `rt staticlib aes18` proves and writes in the repository around this package. A relative `AES18_ARCHIVE` starts at this
-//! package's folder.
+//! package's folder. It has to be of this version: an earlier one leaves the enable bits in force, the last byte of a sender's record, unwritten.
 
 #![no_std]
 #![deny(unsafe_code)]

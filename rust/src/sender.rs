@@ -125,7 +125,7 @@ impl Sender {
     /// let mut store = [0; SENDER_STORE];
     /// let mut bits = [0; 32];
     /// let mut sender = Sender::list(&[Circuit { address: 0x10, extension: None }])?;
-    /// assert_eq!(sender.enable(), 0b1111);
+    /// assert_eq!(sender.enable(), SystemPacket::ALL_ENABLED);
     /// sender.offer(&mut store, 0, 1, 0, b"charge 71%")?;
     ///
     /// // Priority 3 alone is enabled from here on: the message, of priority 1, waits in this block and in the next.
@@ -140,8 +140,8 @@ impl Sender {
     /// # Ok(())
     /// # }
     /// ```
-    pub fn enable(&self) -> u8 {
-        self.record[ENABLE]
+    pub fn enable(&self) -> u64 {
+        self.record[ENABLE].into()
     }
 
     /// The record's bytes. Their layout is no storage format: a later version may have another.

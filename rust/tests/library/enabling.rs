@@ -93,7 +93,7 @@ fn they_rule_their_own_block_and_all_later_ones() {
         assert_eq!(end.block(Some(enable.into())), 15 - enable, "own block");
         let later = [(); 4].map(|()| end.offered_and_placed());
         assert_eq!(later, [15 - enable; 4], "later blocks");
-        assert_eq!(end.sender.enable(), enable);
+        assert_eq!(end.sender.enable(), enable.into());
         assert_eq!(end.block(Some(15)), 0, "all enabled again");
         assert_eq!(end.offered_and_placed(), 0, "and behind that");
     }
@@ -247,7 +247,7 @@ fn out_of_range_above_15(mut record: [u8; SENDER_RECORD], offered: Result<(), Re
 fn calls_on(record: [u8; SENDER_RECORD]) -> (Result<(), Refusal>, Result<(), Refusal>) {
     let (mut store, mut bits) = ([0xAA; SENDER_STORE], [0xAA; BYTES]);
     let mut sender = Sender::from_bytes(record);
-    assert_eq!(sender.enable(), record[ENABLE]);
+    assert_eq!(sender.enable(), record[ENABLE].into());
     let offered = sender.offer(&mut store, 0, 0, 0, b"message");
     if offered.is_err() {
         assert_eq!(sender.as_bytes(), &record);

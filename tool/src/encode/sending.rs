@@ -91,14 +91,14 @@ impl Sending {
     fn refused(&self, refusal: Refusal, circuit: usize) -> String {
         let why = self.held_back(circuit);
         match why.filter(|_| refusal == Refusal::MessagePending) {
-            Some(why) => format!("{refusal}: {why}"),
+            Some(why) => format!("{refusal}; its {why}"),
             None => refusal.to_string(),
         }
     }
 
     /// The enable bits in force.
     pub fn enable(&self) -> EnableBits {
-        EnableBits(self.sender.enable())
+        EnableBits(self.sender.enable() as u8)
     }
 
     /// How many packets wait at the circuit of that number.

@@ -338,7 +338,7 @@ fn offers_behind_a_message_held_back() {
     try_wrong(
         "offers-held-back",
         &[
-            (&again(0, 0), 5, &format!("{pending}: {held}")),
+            (&again(0, 0), 5, &format!("{pending}; its {held}")),
             (&again(0, 4), 5, "refusal 7: priority above 3"),
             (&again(2, 3), 5, "refusal 6: circuit number not listed"),
             (&again(4, 3), 5, "refusal 6: circuit number not listed"),
@@ -346,7 +346,7 @@ fn offers_behind_a_message_held_back() {
             (
                 &(again(1, 3) + "offer 1 2 0 -"),
                 6,
-                &format!("{pending}: {held}"),
+                &format!("{pending}; its {held}"),
             ),
         ],
     );

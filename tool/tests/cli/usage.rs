@@ -54,10 +54,20 @@ fn what_the_helps_say() {
     let folder = Folder::new("help-words");
     let told = folder.run(&["decode", "--help"]).told();
     assert!(told.contains("4,294,967,295, which stands for that many or more"));
-    let told = folder.run(&["encode", "--help"]).told();
-    let words: Vec<&str> = told.split_whitespace().collect();
-    let rule = "They rule this block and all later ones until another system packet;";
-    assert!(words.join(" ").contains(rule), "{told}");
+    for (subcommand, rule) in [
+        (
+            "encode",
+            "They rule this block and all later ones until another system packet;",
+        ),
+        (
+            "decode",
+            "in its block and all later ones until another system packet,",
+        ),
+    ] {
+        let told = folder.run(&[subcommand, "--help"]).told();
+        let words: Vec<&str> = told.split_whitespace().collect();
+        assert!(words.join(" ").contains(rule), "{told}");
+    }
     for subcommand in ["decode", "line"] {
         let told = folder.run(&[subcommand, "--help"]).told();
         assert!(told.contains("  stty -F DEVICE 9600 raw -echo\n"), "{told}");
