@@ -22,6 +22,16 @@ fn folder(name: &str) -> Folder {
     folder
 }
 
+/// A command that runs the program in a folder. It gets the signals, also where whoever runs the tests ignores some.
+fn command(folder: &Folder, arguments: &[&str]) -> Command {
+    let mut command = Command::new("env");
+    command
+        .args(["--default-signal=HUP,INT,TERM", env!("CARGO_BIN_EXE_aes18")])
+        .args(arguments)
+        .current_dir(folder.path("."));
+    command
+}
+
 /// Starts the program and gives it bytes; it waits for more as long as the input is kept.
 fn start(mut command: Command, bytes: &[u8]) -> (Child, ChildStdin) {
     let mut child = command
@@ -68,7 +78,7 @@ fn drafts_are_gone() {
     ];
     for (signal, number) in SIGNALS {
         for arguments in cases {
-            let (mut child, _stdin) = start(folder.command(arguments), &bits);
+            let (mut child, _stdin) = start(command(&folder, arguments), &bits);
             wait_for_draft(&folder.path("."));
             send(signal, &child);
             assert_eq!(
@@ -90,7 +100,7 @@ fn a_long_plan() {
         "plan",
         format!("circuits 01\n{}", "block 27000 27000\n".repeat(20_000)),
     );
-    let (mut child, _stdin) = start(folder.command(&["encode", "plan", "-o", "bits"]), b"");
+    let (mut child, _stdin) = start(command(&folder, &["encode", "plan", "-o", "bits"]), b"");
     wait_for_draft(&folder.path("."));
     send("INT", &child);
     assert_eq!(child.wait().unwrap().signal(), Some(2));
@@ -104,7 +114,7 @@ fn messages_stay() {
     let bits = folder.read("bits");
     for (signal, number) in SIGNALS {
         let arguments = ["decode", "--circuits=01,7E", "--messages=out", "-"];
-        let (mut child, _stdin) = start(folder.command(&arguments), &bits);
+        let (mut child, _stdin) = start(command(&folder, &arguments), &bits);
         wait_for_draft(&folder.path("out"));
         let told = BufReader::new(child.stdout.take().unwrap());
         let last = told.lines().nth(6).unwrap().unwrap();
