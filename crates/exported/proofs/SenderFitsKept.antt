@@ -124,12 +124,12 @@ pub fits-made : (s : Sender) (store block : List ℕ) (n u : ℕ) (y : System) �
 unfolding senderAfterBlock blockFilled fillUp ruled
 fits-made s store block n u y fits = go (eqb (blockRefusal s store block n u y) 0) refl
   where
-    now : Sender
-    now = ruled s (enableBits y)
+    under : Sender
+    under = ruled s (enableBits y)
 
     go : (t : Bool) → eqb (blockRefusal s store block n u y) 0 ≡ t → SenderFits (cond t (blockFilled s store u (systemPackets y) (enableBits y) .sender) s)
     go true e =
         let z : blockRefusal s store block n u y ≡ 0 = eqb-true _ 0 e in
-        fits-filled (waiting now) now store _ _ u (accepted-ruled-in-range s store block n u y z)
+        fits-filled (waiting under) under store _ _ u (accepted-ruled-in-range s store block n u y z)
         (record { circuits = fits .circuits; slots = fits .slots; last = fits .last; enable = omega (arith, inForce-at-most-15 s store block n u y z) })
     go false e = fits

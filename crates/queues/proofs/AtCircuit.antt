@@ -277,8 +277,8 @@ module _ (k : Circuit) where
   at-effect noEffect q apart right = at-none q
   at-effect (sendsMessage d priority repetition message) q apart right = at-offer q d priority repetition message apart (right .0) (right .1) (right .2)
   at-effect (takesFrames t) q apart right =
-      let now : Queues = ruledQueues q (t .newEnable) in
-      rw append-nil (at-append q [] [] now [] _ _ (at-ruled q (t .newEnable)) (at-takeUpTo (copiesInQueues (q .queues)) now _ _ (t .usable) apart))
+      let under : Queues = ruledQueues q (t .newEnable) in
+      rw append-nil (at-append q [] [] under [] _ _ (at-ruled q (t .newEnable)) (at-takeUpTo (copiesInQueues (q .queues)) under _ _ (t .usable) apart))
 
   pub at-effects : (xs : List Effect) (q : Queues) → Apart q → AllRight q xs
       → AtCircuit q (messagesSent q xs) (framesOf (blocksTaken q xs)) (queuesAfter q xs)

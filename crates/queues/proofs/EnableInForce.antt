@@ -47,20 +47,20 @@ enable-call (block n u buffer y) e = go (eqb (blockRefusal (e .sender) (e .store
     go true = fill-enable _ (ruled (e .sender) (enableBits y)) (e .store) _ _ u ∙ inForce-lastOr (e .sender .enable) y
     go false = refl
 
-lastOr-append : (a b : List ℕ) (first : ℕ) → lastOr first (a ++ b) ≡ lastOr (lastOr first a) b
+lastOr-append : (a b : List ℕ) (otherwise : ℕ) → lastOr otherwise (a ++ b) ≡ lastOr (lastOr otherwise a) b
 unfolding lastOr
-lastOr-append [] b first = refl
-lastOr-append (n ∷ a) b first = lastOr-append a b n
+lastOr-append [] b otherwise = refl
+lastOr-append (n ∷ a) b otherwise = lastOr-append a b n
 
 enable-calls : (calls : List Call) (e : End) → afterCalls e calls .sender .enable ≡ lastOr (e .sender .enable) (enablesSent e calls)
 unfolding afterCalls enablesSent lastOr
 enable-calls [] e = refl
 enable-calls (call ∷ calls) e =
-    let now : List ℕ = cond (accepted e call) (enableAsked call) [] in
+    let first : List ℕ = cond (accepted e call) (enableAsked call) [] in
     let later : List ℕ = enablesSent (afterCall e call) calls in
     enable-calls calls (afterCall e call)
     ∙ ap (λ held. lastOr held later) (enable-call call e)
-    ∙ sym (lastOr-append now later (e .sender .enable))
+    ∙ sym (lastOr-append first later (e .sender .enable))
 
 -- after any calls of a fresh sender
 pub enable-in-force : EnableInForce

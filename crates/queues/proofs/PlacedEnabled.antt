@@ -92,8 +92,8 @@ pub placed-enabled : PlacedEnabled
 unfolding PlacedEnabled EnableInForce packetsPlaced
 placed-enabled bytes store calls call listed =
     let e : End = freshEnd bytes store in
-    let now : End = afterCalls e calls in
-    let bits : afterCall now call .sender .enable ≡ enableAfter bytes store (calls ++ call ∷ []) =
+    let before : End = afterCalls e calls in
+    let bits : afterCall before call .sender .enable ≡ enableAfter bytes store (calls ++ call ∷ []) =
     ap (λ (x : End). x .sender .enable) (sym (afterCalls-last calls e call)) ∙ enable-in-force bytes store (calls ++ call ∷ []) in
     let placed : List (List ℕ) = packetsPlaced bytes store calls call in
-    subst (λ enable. AllEnabled enable placed) bits (enabled-call call now _ (stands-calls bytes store calls listed))
+    subst (λ enable. AllEnabled enable placed) bits (enabled-call call before _ (stands-calls bytes store calls listed))

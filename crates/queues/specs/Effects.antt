@@ -26,8 +26,8 @@ pub data Effect : Type 0 where
 -- the frames that the block rule takes from the queues under the enable bits in force, behind those of the packets before them
 unfoldable pub takenFor : Queues → BlockAsked → Taken
 takenFor q t =
-    let now = ruledQueues q (t .newEnable) in
-    takeFrames now (length (flaggedFrames (t .before))) (now .enable) (t .usable)
+    let under = ruledQueues q (t .newEnable) in
+    takeFrames under (length (flaggedFrames (t .before))) (under .enable) (t .usable)
 
 -- a block by what is in it: N, the packets that stand before ours, and our frames
 pub record TakenBlock : Type 0 where

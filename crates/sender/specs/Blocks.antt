@@ -108,8 +108,8 @@ ruled s newEnable = record { circuits = s .circuits; slots = s .slots; last = s 
 -- our frames in a block, behind those of the packets before them, under the enable bits in force
 unfoldable pub blockFilled : Sender → List ℕ → ℕ → List (List ℕ) → Option ℕ → Filled
 blockFilled s store u before newEnable =
-    let now = ruled s newEnable in
-    fillUp now store (length (flaggedFrames before)) (now .enable) u
+    let under = ruled s newEnable in
+    fillUp under store (length (flaggedFrames before)) (under .enable) u
 
 -- all packets in a block, in order
 unfoldable pub blockPackets : Sender → List ℕ → ℕ → List (List ℕ) → Option ℕ → List (List ℕ)
