@@ -149,10 +149,10 @@ static void put_rest(struct pen *p, size_t n)
 
 /* ---- sending: the calls */
 
-/* `place` counts the packets of the last message of which every copy is placed, `copy` the copies placed of the next one. */
+/* `place` counts the packets of the last message of which every copy is placed, `left` those still to go, `copy` the copies placed of the next one. */
 struct sending {
     uint8_t index, priority, repetition, copy;
-    uint16_t length, place;
+    uint16_t length, place, left;
 };
 
 /* `enable` are the enable bits in force. */
@@ -186,7 +186,7 @@ static int sender_in_range(const struct plain_sender *s)
     for (unsigned i = 0; i < s->circuits.count; i++) {
         const struct sending *t = &s->slots[i];
         if (t->index > 7 || t->priority > 3 || t->repetition > 5 || t->copy > t->repetition || t->length > LONGEST
-            || t->place > packets(t->length))
+            || t->place > packets(t->length) || t->left != packets(t->length) - t->place)
             return 0;
     }
     return 1;
@@ -237,6 +237,7 @@ static void serve(struct plain_sender *s, int i)
     }
     t->copy = 0;
     t->place++;
+    t->left--;
     t->index = (uint8_t)((t->index + 1) % 8);
 }
 
@@ -287,7 +288,7 @@ uint32_t plain_sender_offer(struct plain_sender *s, uint8_t *store, size_t store
     t = &s->slots[circuit];
     if (pending(t))
         return 10;
-    *t = (struct sending){t->index, (uint8_t)priority, (uint8_t)repetition, 0, (uint16_t)message_len, 0};
+    *t = (struct sending){t->index, (uint8_t)priority, (uint8_t)repetition, 0, (uint16_t)message_len, 0, (uint16_t)packets((unsigned)message_len)};
     if (message_len)
         memcpy(store + REGION * circuit, message, message_len);
     return 0;

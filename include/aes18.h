@@ -7,8 +7,8 @@
  * are written to a serial line and read from one: that to a telemetry terminal, in the octet-stuffed frames of RFC 1662. These are the functions of
  * the static library libaes18.a for x86-64, which `rt staticlib aes18` proves and writes; docs/PROOFS.md says what is proved of them. Document 01 is
  * the specification: refusals have its numbers, and its words stand in quotation marks. The totals are those of document 02, ask 1; the serial line,
- * with refusals 16 and 17, is that of its ask 3; that enable bits hold over from block to block is its ask 4. No document asks for the framing's call;
- * what it reads is what document 01 says of flags and bodies.
+ * with refusals 16 and 17, is that of its ask 3; that enable bits hold over from block to block is its ask 4; the packets still to go in a sender's
+ * record are those of its ask 5. No document asks for the framing's call; what it reads is what document 01 says of flags and bodies.
  *
  * What is lent. Every array is lent as a pointer and its length in bytes, for the time of the call. With length 0 any pointer will do, a null
  * pointer too, and is not followed. An array that a call writes (record, framing, totals, block, the store of an offer and of a read, the line of a
@@ -56,9 +56,10 @@ extern "C" {
 
 /*
  * Lengths in bytes of what is lent. Records, stores and answers may be longer; the bytes behind are not looked at and keep their values. Header and
- * archive have to be of one version: an archive made before a record grew takes the longer one too, and leaves its last bytes unwritten.
+ * archive have to be of one version: an archive made before a record grew takes the longer one too, lays it out as before and leaves its last bytes
+ * unwritten.
  */
-#define AES18_SENDER_RECORD 47
+#define AES18_SENDER_RECORD 55
 #define AES18_RECEIVER_RECORD 61
 #define AES18_SENDER_STORE 16384
 #define AES18_RECEIVER_STORE 16400
@@ -135,23 +136,24 @@ extern "C" {
  * display it or look into it. It is no storage format, and a later version may lay records out differently; what is worth keeping of a pass is
  * its user bits.
  *
- * The sender's record, 47 bytes:
+ * The sender's record, 55 bytes:
  *   0        number of circuits, 0 to 4
  *   1 to 12  the circuits, as in a list; the places behind the listed ones are 0
- *   13 to 44 for each circuit number 8 bytes:
+ *   13 to 52 for each circuit number 10 bytes:
  *              0     continuity index of its next packet, 0 to 7
  *              1     priority of its last message, 0 to 3
  *              2     repetition of its last message, 0 to 5
  *              3     copy: how many copies are placed of the packet that is next, at most the repetition
  *              4, 5  length of its last message, 0 to 4094
  *              6, 7  place: how many packets of that message have every copy placed
- *            A message of up to 15 bytes has 1 packet, a longer one of n bytes (n + 17) / 16, rounded down. The message has a copy to place as long
- *            as place is below this number, and place is never above it.
- *   45       number of the circuit last served, 0 to 3
- *   46       the enable bits in force, 0 to 15, those of the last system packet sent: priority p is enabled if the bit of value 1 << p is set
- * As listed, every circuit number has 0, 0, 0, 0, 0, 0, 1, 0 (nothing to place), the circuit last served is 3, so that circuit 0 comes first, and the
- * enable bits in force are 15: all four priorities are enabled. The record of no circuits, which a refused listing writes, is 13 times 0, four times
- * 0, 0, 0, 0, 0, 0, 1, 0, then 3 and 15.
+ *              8, 9  left: the packets still to go, how many packets of that message have some copy still to place
+ *            A message of up to 15 bytes has 1 packet, a longer one of n bytes (n + 17) / 16, rounded down. Place is never above this number, and
+ *            left is this number less place. The message has a copy to place as long as left is not 0.
+ *   53       number of the circuit last served, 0 to 3
+ *   54       the enable bits in force, 0 to 15, those of the last system packet sent: priority p is enabled if the bit of value 1 << p is set
+ * As listed, every circuit number has 0, 0, 0, 0, 0, 0, 1, 0, 0, 0 (nothing to place), the circuit last served is 3, so that circuit 0 comes first, and
+ * the enable bits in force are 15: all four priorities are enabled. The record of no circuits, which a refused listing writes, is 13 times 0, four
+ * times 0, 0, 0, 0, 0, 0, 1, 0, 0, 0, then 3 and 15.
  *
  * The receiver's record, 61 bytes:
  *   0 to 12  number of circuits and circuits, as above
@@ -170,8 +172,9 @@ extern "C" {
  * As listed, everything behind the circuits is 0. The record of no circuits is 61 times 0.
  *
  * Out of range, and refused by RECORD, are: more than four circuits, circuits that a listing refuses by ADDRESS, EXTENSION or ALIKE, a number of a
- * listed circuit outside what stands here, a circuit last served above 3, enable bits in force above 15, a framing that no bits leave, and 2 or more
- * where a byte is 1 or 0.
+ * listed circuit outside what stands here, so also a left that is not its message's packets less place, a circuit last served above 3, enable bits in
+ * force above 15, a framing that no bits leave, and, at any circuit number, 2 or more where a byte is 1 or 0. Nothing else is judged at numbers that
+ * are not listed.
  *
  * A framing alone, 24 bytes, is that of a receiver's record, its bytes 37 to 60: phase, ones, count, and 21 bytes of bits. A fresh one is 24 times 0,
  * which a caller writes itself. Out of range is one that no bits leave.
@@ -203,7 +206,8 @@ uint32_t aes18_sender_list(uint8_t *record, size_t record_len, const uint8_t *li
 /*
  * Offers a message of 0 to 4094 bytes at a circuit number. It is copied to the start of the circuit's region, so the caller's own is not needed any
  * longer. Its packets wait to be placed in blocks, each once and then as often again as the repetition says. A circuit takes its next message when
- * the last copy of the one before is placed. A message is taken whether its priority is enabled or not; while it is not, its packets wait.
+ * the last copy of the one before is placed. A message is taken whether its priority is enabled or not; while it is not, its packets wait. A panel
+ * reads in the record how many are still to go at each circuit: see AES18_SENDER_LEFT.
  * Refusals, in order: SHORT, RECORD, STORE, CIRCUIT, PRIORITY, REPETITION, MESSAGE, PENDING.
  */
 uint32_t aes18_sender_offer(uint8_t *record, size_t record_len, uint8_t *store, size_t store_len, uint64_t circuit, uint64_t priority,
@@ -227,10 +231,22 @@ uint32_t aes18_sender_block(uint8_t *record, size_t record_len, const uint8_t *s
                             uint64_t enable, uint64_t code, const uint8_t *info, size_t info_len, uint8_t *block, size_t block_len, uint8_t *answer,
                             size_t answer_len);
 
-/* Where the numbers stand in a block's answer, and where a sender's record has the enable bits in force. */
+/* Where the numbers stand in a block's answer. */
 #define AES18_BLOCK_PLACED 0
 #define AES18_BLOCK_USED 4
-#define AES18_SENDER_ENABLE 46
+
+/*
+ * Where a sender's record has what a panel reads: the enable bits in force, and for each circuit number the packets still to go. Those of circuit 0
+ * stand at byte AES18_SENDER_LEFT and the next, lowest byte first, and those of each next number AES18_SENDER_CIRCUIT bytes on. So circuit c has
+ *
+ *     record[AES18_SENDER_LEFT + AES18_SENDER_CIRCUIT * c] + 256 * record[AES18_SENDER_LEFT + AES18_SENDER_CIRCUIT * c + 1]
+ *
+ * packets still to go. This is 0 exactly where nothing is pending, so where no offer is refused by PENDING. An accepted offer sets it to the number of
+ * the message's packets, 1 to 256. Copies are not counted: a packet counts until its last copy is placed.
+ */
+#define AES18_SENDER_LEFT 21
+#define AES18_SENDER_CIRCUIT 10
+#define AES18_SENDER_ENABLE 54
 
 /*
  * Makes a receiver: writes the record for the circuits of the list. The refusals are those of aes18_sender_list; a refused listing writes the

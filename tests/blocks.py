@@ -12,10 +12,20 @@ HELD = HERE / "crates" / "vectors" / "stdout"
 HEAD = "Blocks\n"
 
 
-def told(made):
-    if isinstance(made, int):
-        return "refused %d" % made
-    return "placed %d used %d %s" % (made.placed, made.used, made.data.hex())
+def left(s):
+    return "left %d %d %d %d" % tuple(s.left())
+
+
+def offered(s, *call):
+    answer = s.offer(*call)
+    return "accepted, " + left(s) if answer == "accepted" else answer
+
+
+def made(s, *call):
+    block = s.block(*call)
+    if isinstance(block, int):
+        return "refused %d" % block
+    return "placed %d used %d %s %s" % (block.placed, block.used, left(s), block.data.hex())
 
 
 def run():
@@ -23,31 +33,31 @@ def run():
     s = Sender([(0x01, 0, 0), (0x02, 1, 0x07), (0x7E, 0, 0)])
     ramp = bytes(range(40))
     ones = bytes([0xFF] * 20)
-    out.append(s.offer(0, 1, 0, b"charge 71%"))
-    out.append(s.offer(1, 1, 1, ramp))
-    out.append(s.offer(2, 3, 2, ones))
-    out.append(s.offer(1, 0, 0, b""))
-    out.append(s.offer(3, 0, 0, b""))
-    out.append(s.offer(0, 4, 0, b""))
-    out.append(s.offer(0, 0, 6, b""))
-    out.append(told(s.block(600, 590, 80, None)))
-    out.append(told(s.block(600, 600, 80, (5, 8, b"\x01\x02\x03"))))
-    out.append(told(s.block(600, 600, 80, None)))
-    out.append(told(s.block(641, 641, 80, (15, 0, b""))))
-    out.append(told(s.block(600, 600, 80, (15, 9, b""))))
-    out.append(told(s.block(600, 600, 80, None)))
-    out.append(told(s.block(256, 256, 80, (15, 8, bytes([0xFF] * 15)))))
-    out.append(told(s.block(605, 605, 80, None)))
-    out.append(told(s.block(601, 256, 80, None)))
-    out.append(s.offer(0, 0, 5, b""))
-    out.append(told(s.block(640, 640, 80, (15, 0, b""))))
-    out.append(told(s.block(640, 640, 80, None)))
-    out.append(told(s.block(255, 255, 80, None)))
-    out.append(told(s.block(640, 641, 80, None)))
-    out.append(told(s.block(641, 641, 80, None)))
-    out.append(told(s.block(640, 640, 80, (16, 0, b""))))
-    out.append(told(s.block(640, 640, 80, (15, 9, b""))))
-    out.append(told(s.block(640, 640, 80, None)))
+    out.append(offered(s, 0, 1, 0, b"charge 71%"))
+    out.append(offered(s, 1, 1, 1, ramp))
+    out.append(offered(s, 2, 3, 2, ones))
+    out.append(offered(s, 1, 0, 0, b""))
+    out.append(offered(s, 3, 0, 0, b""))
+    out.append(offered(s, 0, 4, 0, b""))
+    out.append(offered(s, 0, 0, 6, b""))
+    out.append(made(s, 600, 590, 80, None))
+    out.append(made(s, 600, 600, 80, (5, 8, b"\x01\x02\x03")))
+    out.append(made(s, 600, 600, 80, None))
+    out.append(made(s, 641, 641, 80, (15, 0, b"")))
+    out.append(made(s, 600, 600, 80, (15, 9, b"")))
+    out.append(made(s, 600, 600, 80, None))
+    out.append(made(s, 256, 256, 80, (15, 8, bytes([0xFF] * 15))))
+    out.append(made(s, 605, 605, 80, None))
+    out.append(made(s, 601, 256, 80, None))
+    out.append(offered(s, 0, 0, 5, b""))
+    out.append(made(s, 640, 640, 80, (15, 0, b"")))
+    out.append(made(s, 640, 640, 80, None))
+    out.append(made(s, 255, 255, 80, None))
+    out.append(made(s, 640, 641, 80, None))
+    out.append(made(s, 641, 641, 80, None))
+    out.append(made(s, 640, 640, 80, (16, 0, b"")))
+    out.append(made(s, 640, 640, 80, (15, 9, b"")))
+    out.append(made(s, 640, 640, 80, None))
     return "\n".join(out) + "\n"
 
 

@@ -239,7 +239,7 @@ static const uint8_t two_circuits[] = {0x01, 0, 0, 0x02, 1, 0x07};
 /* The circuit part of the record of two_circuits. */
 static const uint8_t two_listed[13] = {2, 0x01, 0, 0, 0x02, 1, 0x07};
 
-#define FRESH_SLOT 0, 0, 0, 0, 0, 0, 1, 0
+#define FRESH_SLOT 0, 0, 0, 0, 0, 0, 1, 0, 0, 0
 static const uint8_t no_sender[AES18_SENDER_RECORD] = {0, 0, 0, 0, 0, 0, 0, 0, 0, 0, 0, 0, 0, FRESH_SLOT, FRESH_SLOT, FRESH_SLOT, FRESH_SLOT, 3, 15};
 static const uint8_t no_receiver[AES18_RECEIVER_RECORD] = {0};
 
@@ -318,7 +318,7 @@ static void test_lent(struct call *c, const struct function *f)
 /* Everything is wrong with an offer at first; then one thing after the other is put right. */
 static void test_offer(void)
 {
-    static const uint8_t slot[] = {0, AES18_HIGHEST_PRIORITY, AES18_MOST_REPETITIONS, 0, 0xFE, 0x0F, 0, 0};
+    static const uint8_t slot[] = {0, AES18_HIGHEST_PRIORITY, AES18_MOST_REPETITIONS, 0, 0xFE, 0x0F, 0, 0, 0, 1};
     static struct call c;
 
     prepare_listed(&c, &list_sender, &offer, two_circuits, sizeof two_circuits);
@@ -333,9 +333,9 @@ static void test_offer(void)
     memset(c.bytes[INPUT], 0x11, AES18_LONGEST_MESSAGE);
     CALL(&c, &offer, AES18_ACCEPTED);
     EQUAL(c.bytes[RECORD], two_listed, sizeof two_listed);
-    EQUAL(c.bytes[RECORD] + 13, no_sender + 13, 8);
-    EQUAL(c.bytes[RECORD] + 21, slot, sizeof slot);
-    EQUAL(c.bytes[RECORD] + 29, no_sender + 29, AES18_SENDER_RECORD - 29);
+    EQUAL(c.bytes[RECORD] + 13, no_sender + 13, 10);
+    EQUAL(c.bytes[RECORD] + 23, slot, sizeof slot);
+    EQUAL(c.bytes[RECORD] + 33, no_sender + 33, AES18_SENDER_RECORD - 33);
     ALL(c.bytes[STORE], OLD, AES18_REGION);
     ALL(c.bytes[STORE] + AES18_REGION, 0x11, AES18_LONGEST_MESSAGE);
     ALL(c.bytes[STORE] + AES18_REGION + AES18_LONGEST_MESSAGE, OLD, AES18_SENDER_STORE - AES18_REGION - AES18_LONGEST_MESSAGE);
@@ -467,17 +467,19 @@ static void test_read_refusals(void)
 /* Bytes of a record that are out of range: from `place` on those of `bytes`. */
 struct outside {
     size_t place;
-    uint8_t bytes[4];
+    uint8_t bytes[6];
     size_t length;
 };
 
 static const struct outside senders_outside[] = {
     {0, {5}, 1}, {0, {255}, 1},                                     /* number of circuits */
     {1, {0xFF}, 1}, {2, {2}, 1}, {3, {1}, 1}, {4, {0x01, 0, 0}, 3}, /* circuits that listing refuses */
-    {13, {8}, 1}, {21, {8}, 1}, {14, {4}, 1}, {15, {6}, 1},         /* index, priority, repetition */
-    {16, {1}, 1}, {24, {1}, 1},                                     /* copy above the repetition */
-    {17, {0xFF, 0x0F}, 2}, {19, {2}, 1}, {20, {1}, 1},              /* length, place past the message's end */
-    {45, {4}, 1}, {46, {16}, 1}, {46, {255}, 1},                    /* last served, enable bits in force */
+    {13, {8}, 1}, {23, {8}, 1}, {14, {4}, 1}, {15, {6}, 1},         /* index, priority, repetition */
+    {16, {1}, 1}, {26, {1}, 1},                                     /* copy above the repetition */
+    {17, {0xFF, 0x0F, 1, 0, 0, 1}, 6},                              /* length, with place and left of its packets */
+    {19, {2}, 1}, {20, {1}, 1}, {19, {2, 0, 0xFF, 0xFF}, 4},        /* place past the message's end */
+    {21, {1}, 1}, {22, {1}, 1}, {31, {0xFF, 0xFF}, 2},              /* left where nothing is pending */
+    {53, {4}, 1}, {54, {16}, 1}, {54, {255}, 1},                    /* last served, enable bits in force */
 };
 
 static const struct outside receivers_outside[] = {
@@ -526,7 +528,7 @@ static void read_on(int line, struct call *c)
 /* The record of a sender, and of the receiver that reads its blocks, as a message of two packets with one repetition goes over. */
 static void test_records(void)
 {
-    static const uint8_t slots[][8] = {{0, 2, 1, 1, 20, 0, 0, 0}, {1, 2, 1, 0, 20, 0, 1, 0}, {2, 2, 1, 0, 20, 0, 2, 0}};
+    static const uint8_t slots[][10] = {{0, 2, 1, 1, 20, 0, 0, 0, 2, 0}, {1, 2, 1, 0, 20, 0, 1, 0, 1, 0}, {2, 2, 1, 0, 20, 0, 2, 0, 0, 0}};
     static const uint8_t heard[][6] = {{1, 0, 20, 0, 14, 0}, {1, 0, 20, 0, 14, 0}, {1, 1, 0, 0, 0, 0}};
     static const uint8_t fate[] = {AES18_FATE_BEGUN, AES18_FATE_COPY, AES18_FATE_WHOLE};
     static const uint8_t behind_flag[24] = {2};
@@ -545,8 +547,8 @@ static void test_records(void)
     s.length[BLOCK] = 32;
     for (i = 0; i < 3; i++) {
         CALL(&s, &block, AES18_ACCEPTED);
-        EQUAL(s.bytes[RECORD] + 21, slots[i], sizeof slots[i]);
-        IS(s.bytes[RECORD][45], 1);
+        EQUAL(s.bytes[RECORD] + 23, slots[i], sizeof slots[i]);
+        IS(s.bytes[RECORD][53], 1);
         IS(number(s.bytes[ANSWER] + AES18_BLOCK_PLACED, 4), i == 2 ? 2 : 1);
         put(&r, INPUT, s.bytes[BLOCK], 32);
         r.from = 0;
@@ -1087,6 +1089,14 @@ static void test_pass(uint64_t n)
     IS(r.bytes[STORE][AES18_RECEIVER_STORE - 1], OLD);
 }
 
+/* The packets still to go at a circuit number, as a panel reads them. */
+static uint64_t left(const struct call *c, size_t circuit)
+{
+    const uint8_t *record = c->bytes[RECORD];
+
+    return record[AES18_SENDER_LEFT + AES18_SENDER_CIRCUIT * circuit] + 256u * record[AES18_SENDER_LEFT + AES18_SENDER_CIRCUIT * circuit + 1];
+}
+
 /* Where a packet waits, of messages of no bytes at four circuits: the bit of value 1 << c is set for circuit c. */
 static unsigned waiting(const struct call *c)
 {
@@ -1094,7 +1104,7 @@ static unsigned waiting(const struct call *c)
     size_t i;
 
     for (i = 0; i < AES18_MOST_CIRCUITS; i++)
-        circuits |= (unsigned)(c->bytes[RECORD][13 + 8 * i + 6] == 0) << i;
+        circuits |= (unsigned)(left(c, i) != 0) << i;
     return circuits;
 }
 
@@ -1226,6 +1236,256 @@ static void test_enable_range(uint8_t circuits, uint32_t offered)
         CALL(&c, &block, enable[i] > AES18_ALL_ENABLED ? AES18_REFUSED_RECORD : AES18_ACCEPTED);
         IS(c.bytes[RECORD][AES18_SENDER_ENABLE], enable[i]);
     }
+}
+
+/* Messages, and how many packets they are: a header of one byte, or of two from 16 on, and the message are cut into segments of 16 bytes. */
+static const struct {
+    size_t length, packets;
+} messages[] = {{0, 1}, {1, 1}, {15, 1}, {16, 2}, {17, 2}, {30, 2}, {31, 3}, {AES18_LONGEST_MESSAGE, 256}};
+static const uint64_t repetitions[] = {0, 1, AES18_MOST_REPETITIONS};
+
+enum { MESSAGES = COUNT(messages) * COUNT(repetitions) };
+
+/* The copies that wait at a circuit, in order, each as the number of its packet: those from `next` up to and without `end`. */
+struct queue {
+    size_t copies[256 * (AES18_MOST_REPETITIONS + 1)];
+    size_t next, end;
+};
+
+/* A sender of some circuits, a receiver of its blocks, what waits by the papers, the number of the next message and that of the next block. */
+struct sending {
+    struct call s;
+    uint8_t record[AES18_RECEIVER_RECORD], store[AES18_RECEIVER_STORE];
+    struct queue queues[AES18_MOST_CIRCUITS];
+    size_t message, block;
+};
+
+/* All copies of so many packets, each packet's together. */
+static void fill_queue(struct queue *q, size_t packets, size_t copies)
+{
+    q->next = 0;
+    for (q->end = 0; q->end < packets * copies; q->end++)
+        q->copies[q->end] = q->end / copies;
+}
+
+/* How many packets have a copy in a queue. */
+static uint64_t packets_in(const struct queue *q)
+{
+    uint64_t packets = 0;
+    size_t i;
+
+    for (i = q->next; i < q->end; i++)
+        packets += i == q->next || q->copies[i] != q->copies[i - 1];
+    return packets;
+}
+
+/* The record has the packets still to go at every circuit number, listed or not. */
+static void is_left(int line, const struct sending *t)
+{
+    size_t c;
+
+    for (c = 0; c < AES18_MOST_CIRCUITS; c++)
+        is(line, left(&t->s, c), packets_in(&t->queues[c]));
+}
+
+#define IS_LEFT(t) is_left(__LINE__, t)
+
+/* Offers the next message at a circuit, which takes it if no copy waits there. */
+static void offer_next(struct sending *t, size_t circuit)
+{
+    struct queue *q = &t->queues[circuit];
+    struct call *s = &t->s;
+    size_t m = t->message % COUNT(messages);
+    int taken = q->next == q->end;
+
+    s->circuit = circuit;
+    s->priority = t->message % (AES18_HIGHEST_PRIORITY + 1);
+    s->repetition = repetitions[t->message / COUNT(messages)];
+    s->length[INPUT] = messages[m].length;
+    CALL(s, &offer, taken ? AES18_ACCEPTED : AES18_REFUSED_PENDING);
+    if (taken) {
+        fill_queue(q, messages[m].packets, (size_t)s->repetition + 1);
+        t->message++;
+    }
+    IS_LEFT(t);
+}
+
+/* Offers at each circuit, as long as there are messages. */
+static void offer_at_all(struct sending *t, size_t circuits)
+{
+    size_t c;
+
+    for (c = 0; c < circuits && t->message < MESSAGES; c++)
+        offer_next(t, c);
+}
+
+/* Makes a block. Each of its frames, as the receiver names their circuits, is the first copy that waits there. How many they are. */
+static uint64_t place_next(struct sending *t)
+{
+    struct call *s = &t->s;
+    uint8_t answer[AES18_READ_ANSWER];
+    uint64_t from = 0, placed = 0;
+
+    s->n = s->u = AES18_FEWEST_BLOCK_BITS + 331 * (t->block++ % 13);
+    s->length[BLOCK] = (size_t)((s->n + 7) / 8);
+    CALL(s, &block, AES18_ACCEPTED);
+    do {
+        IS(aes18_receiver_read(t->record, sizeof t->record, t->store, sizeof t->store, s->bytes[BLOCK], s->length[BLOCK], from, s->n, answer,
+                               sizeof answer), AES18_ACCEPTED);
+        from += number(answer + AES18_READ_BITS, 8);
+        if (answer[AES18_READ_NOTICE] == AES18_NOTICE_CIRCUIT) {
+            IS(t->queues[answer[AES18_READ_CIRCUIT]].next < t->queues[answer[AES18_READ_CIRCUIT]].end, 1);
+            t->queues[answer[AES18_READ_CIRCUIT]].next++;
+            placed++;
+        }
+    } while (answer[AES18_READ_NOTICE] != AES18_NOTICE_END);
+    IS(number(s->bytes[ANSWER] + AES18_BLOCK_PLACED, 4), placed);
+    IS_LEFT(t);
+    return placed;
+}
+
+/* The packets still to go behind each offer and each block, as so many circuits send all these messages with each of the repetitions. */
+static void test_left(size_t circuits)
+{
+    static struct sending t;
+
+    memset(&t, 0, sizeof t);
+    prepare_listed(&t.s, &list_sender, &block, four_circuits, circuits * AES18_CIRCUIT_BYTES);
+    IS(aes18_receiver_list(t.record, sizeof t.record, four_circuits, circuits * AES18_CIRCUIT_BYTES), AES18_ACCEPTED);
+    IS_LEFT(&t);
+    do
+        offer_at_all(&t, circuits);
+    while (place_next(&t) > 0);
+    IS(t.message, MESSAGES);
+}
+
+/* Sets the packets still to go at a circuit number. */
+static void set_left(struct call *c, size_t circuit, uint64_t value)
+{
+    uint8_t *bytes = c->bytes[RECORD] + AES18_SENDER_LEFT + AES18_SENDER_CIRCUIT * circuit;
+
+    bytes[0] = (uint8_t)(value & 255);
+    bytes[1] = (uint8_t)(value >> 8);
+}
+
+/* A fresh sender of so many circuits, ready to offer a message of no bytes at circuit 0 and to make blocks with room for one long packet. */
+static void prepare_left(struct call *c, size_t circuits)
+{
+    prepare_listed(c, &list_sender, &block, four_circuits, circuits * AES18_CIRCUIT_BYTES);
+    c->circuit = c->priority = c->repetition = c->system = 0;
+    c->n = c->u = AES18_FEWEST_BLOCK_BITS;
+    c->length[BLOCK] = AES18_FEWEST_BLOCK_BITS / 8;
+}
+
+/* A packet counts until the last of its copies is placed, one in each block here: the system packet leaves room for no more. */
+static void test_left_copies(uint64_t repetition)
+{
+    static struct call c;
+    uint64_t i;
+
+    prepare_left(&c, 1);
+    c.repetition = repetition;
+    CALL(&c, &offer, AES18_ACCEPTED);
+    c.system = 1;
+    c.enable = AES18_ALL_ENABLED;
+    c.code = 0;
+    c.length[INPUT] = AES18_LONGEST_INFORMATION;
+    for (i = 0; i <= repetition; i++) {
+        IS(left(&c, 0), 1);
+        CALL(&c, &block, AES18_ACCEPTED);
+        IS(number(c.bytes[ANSWER] + AES18_BLOCK_PLACED, 4), 1);
+    }
+    IS(left(&c, 0), 0);
+}
+
+/* Another number than this one at a listed circuit is out of range, 0 among them where this one is not. */
+static void left_outside(struct call *c, size_t circuit, uint64_t right)
+{
+    const uint64_t others[] = {right + 1, (right + 65535) % 65536, right == 0, 65535, right + 256, right + 32768};
+    size_t i;
+
+    IS(left(c, circuit), right);
+    for (i = 0; i < COUNT(others); i++) {
+        set_left(c, circuit, others[i]);
+        CALL(c, &offer, AES18_REFUSED_RECORD);
+        CALL(c, &block, AES18_REFUSED_RECORD);
+    }
+    set_left(c, circuit, right);
+    CALL(c, &block, AES18_ACCEPTED);
+}
+
+/* At a listed circuit, with no copy of the first packet placed, one of two or of six, or all, and with nothing pending. */
+static void test_left_listed(size_t circuits, size_t circuit)
+{
+    static const struct {
+        size_t length;
+        uint64_t repetition, blocks, left;
+    } cases[] = {
+        {0, 0, 0, 1}, {0, 0, 1, 0}, {31, 1, 0, 3}, {31, 1, 1, 3}, {AES18_LONGEST_MESSAGE, 5, 1, 256}, {AES18_LONGEST_MESSAGE, 0, 1, 255},
+    };
+    static struct call c;
+    size_t i;
+
+    for (i = 0; i < COUNT(cases); i++) {
+        prepare_left(&c, circuits);
+        c.circuit = circuit;
+        c.repetition = cases[i].repetition;
+        c.length[INPUT] = cases[i].length;
+        CALL(&c, &offer, AES18_ACCEPTED);
+        if (cases[i].blocks > 0)
+            CALL(&c, &block, AES18_ACCEPTED);
+        c.circuit = c.repetition = 0;
+        left_outside(&c, circuit, cases[i].left);
+    }
+}
+
+/* At a circuit number that is not listed any number is let pass, and left as it is. */
+static void test_left_unlisted(size_t circuits, size_t circuit)
+{
+    static const uint64_t any[] = {0, 1, 255, 256, 65535};
+    static struct call c;
+    size_t i;
+
+    prepare_left(&c, circuits);
+    for (i = 0; i < COUNT(any); i++) {
+        set_left(&c, circuit, any[i]);
+        CALL(&c, &offer, AES18_ACCEPTED);
+        CALL(&c, &block, AES18_ACCEPTED);
+        IS(number(c.bytes[ANSWER] + AES18_BLOCK_PLACED, 4), 1);
+        IS(left(&c, circuit), any[i]);
+        IS(left(&c, 0), 0);
+    }
+}
+
+/* At each circuit number, with so many circuits listed. */
+static void test_left_range(size_t circuits)
+{
+    size_t c;
+
+    for (c = 0; c < AES18_MOST_CIRCUITS; c++)
+        if (c < circuits)
+            test_left_listed(circuits, c);
+        else
+            test_left_unlisted(circuits, c);
+}
+
+/* Records of all lengths below theirs, that of an earlier version among them, with a message pending. */
+static void test_sender_lengths(void)
+{
+    static struct call c;
+    size_t i;
+
+    prepare_left(&c, 1);
+    CALL(&c, &offer, AES18_ACCEPTED);
+    for (i = 0; i < 55; i++) {
+        c.length[RECORD] = i;
+        CALL(&c, &list_sender, AES18_REFUSED_SHORT);
+        CALL(&c, &offer, AES18_REFUSED_SHORT);
+        CALL(&c, &block, AES18_REFUSED_SHORT);
+    }
+    c.length[RECORD] = 55;
+    CALL(&c, &offer, AES18_REFUSED_PENDING);
+    CALL(&c, &block, AES18_ACCEPTED);
 }
 
 /* The worst case of a packet's frame. */
@@ -1582,6 +1842,8 @@ static void test_line_side_by_side(void)
 /* All tests, with arrays of no bytes at a place. */
 static void test_all(uint8_t *place)
 {
+    size_t circuits;
+
     nowhere = place;
     test_listing(&list_sender, no_sender);
     test_listing(&list_receiver, no_receiver);
@@ -1616,6 +1878,14 @@ static void test_all(uint8_t *place)
     test_enable_range(0, AES18_REFUSED_CIRCUIT);
     test_enable_range(1, AES18_ACCEPTED);
     test_enable_range(4, AES18_ACCEPTED);
+    for (circuits = 1; circuits <= AES18_MOST_CIRCUITS; circuits++) {
+        test_left(circuits);
+        test_left_range(circuits);
+    }
+    test_left_copies(0);
+    test_left_copies(1);
+    test_left_copies(AES18_MOST_REPETITIONS);
+    test_sender_lengths();
     test_line_frames();
     test_line_write_refusals();
     test_line_cut(0);

@@ -1,4 +1,6 @@
-"""Frames and blocks made from document 01, with the enable bits of 02, ask 4, for the tests beside this file. Nothing of the proved crates is used here."""
+"""Frames and blocks made from document 01, with the enable bits and the packets still to go of 02, asks 4 and 5, for the tests beside this file.
+Nothing of the proved crates is used here.
+"""
 import collections
 
 FLAG = [0, 1, 1, 1, 1, 1, 1, 0]
@@ -73,6 +75,11 @@ class Sender:
             self.queues[c] += [(priority, packet, self.packets[c])] * (repetition + 1)
             self.packets[c] += 1
         return "accepted"
+
+    def left(self):
+        """The packets still to go at the circuit numbers 0 to 3: those of which some copy waits."""
+        waiting = [{number for _, _, number in queue} for queue in self.queues]
+        return [len(numbers) for numbers in waiting] + [0] * (4 - len(waiting))
 
     def pick(self):
         for priority in (3, 2, 1, 0):

@@ -172,6 +172,7 @@ impl Both {
             ],
         })?;
         self.tally.enabling.offer(number, &before);
+        self.tally.left.offer(number, &before, record);
         Ok(number)
     }
 
@@ -207,6 +208,7 @@ impl Both {
         })?;
         let enabling = &mut self.tally.enabling;
         enabling.block(number, &before, call, record, answer);
+        self.tally.left.block(number, &before, record);
         Ok(number)
     }
 

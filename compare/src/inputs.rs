@@ -3,6 +3,7 @@
 use crate::random::Random;
 use aes18_reference::calls::BlockCall;
 use aes18_reference::packet::{listed, Circuit};
+use aes18_reference::records::{SenderSlot, LAST_SERVED, SENDER_SLOT, SLOTS};
 
 /// A circuit's three bytes, of few values so that many are nearly alike.
 fn circuit_bytes(random: &mut Random) -> [u8; 3] {
@@ -155,6 +156,17 @@ pub fn any_length(random: &mut Random, bytes: &[u8]) -> Vec<u8> {
 pub fn spare(random: &mut Random, length: usize) -> Vec<u8> {
     let more = random.pick(&[0, 0, 1, 16]);
     random.bytes(length + more)
+}
+
+/// Gives the listed circuits of a sender's record the packets still to go that the rest of their slots tells.
+pub fn mend_left(record: &mut [u8]) {
+    let listed = usize::from(record[0]);
+    let slots = record[SLOTS..LAST_SERVED].chunks_mut(SENDER_SLOT);
+    for bytes in slots.take(listed) {
+        let mut slot = SenderSlot::unpack(bytes);
+        slot.left = slot.still_to_go();
+        bytes.copy_from_slice(&slot.pack());
+    }
 }
 
 /// Each place of this many bytes, with each value.

@@ -20,8 +20,8 @@ use std::env;
 use std::process::ExitCode;
 use std::time::{Duration, Instant, SystemTime, UNIX_EPOCH};
 use trials::{
-    cuts, enabling, framings, lengths, lines, listing, packets, passes, reading, records, sending,
-    totals,
+    cuts, enabling, framings, left, lengths, lines, listing, packets, passes, reading, records,
+    sending, totals,
 };
 
 /// A trial under its name, and how often it is made in a lap.
@@ -31,10 +31,11 @@ type Trial = (
     fn(&mut Both, &mut Random) -> Compared<()>,
 );
 
-const TRIALS: [Trial; 26] = [
+const TRIALS: [Trial; 27] = [
     ("listing", 10, listing::any),
     ("sending", 20, sending::run),
     ("few system packets", 20, enabling::few),
+    ("packets still to go", 20, left::any),
     ("reading", 10, reading::run),
     ("noise", 5, reading::noise),
     ("cuts", 1, cuts::every_place),
@@ -101,6 +102,8 @@ fn gate() -> Result<(), String> {
     listing::all(&mut both).map_err(|difference| show(0, "every circuit", 0, &difference))?;
     packets::all(&mut both).map_err(|difference| show(0, "every packet", 0, &difference))?;
     enabling::all(&mut both).map_err(|difference| show(0, "every enable byte", 0, &difference))?;
+    left::all(&mut both)
+        .map_err(|difference| show(0, "every field of packets still to go", 0, &difference))?;
     framings::all(&mut both).map_err(|difference| show(0, "every framing", 0, &difference))?;
     totals::all(&mut both).map_err(|difference| show(0, "every answer", 0, &difference))?;
     lines::all(&mut both).map_err(|difference| show(0, "every byte of a line", 0, &difference))?;

@@ -2,6 +2,7 @@
 
 mod enabling;
 mod framings;
+mod left;
 mod lines;
 
 use aes18_reference::calls::answered_notice;
@@ -9,6 +10,7 @@ use aes18_reference::receiver::{Fate, Notice};
 use aes18_reference::totals::{Figures, Totals, MOST};
 use enabling::Enabling;
 use framings::Framings;
+use left::Left;
 use lines::Lines;
 use std::collections::BTreeMap;
 use std::fmt;
@@ -221,6 +223,7 @@ pub struct Tally {
     fates: [u64; 6],
     pub cuts: Cuts,
     pub enabling: Enabling,
+    pub left: Left,
     pub framings: Framings,
     pub noted: Noted,
     pub lines: Lines,
@@ -263,6 +266,7 @@ impl Tally {
             .chain(notices)
             .chain(self.cuts.missing())
             .chain(self.enabling.missing())
+            .chain(self.left.missing())
             .chain(self.framings.missing())
             .chain(self.noted.missing())
             .chain(self.lines.missing())
@@ -312,6 +316,7 @@ impl fmt::Display for Tally {
         writeln!(out, "fates: {}", line(&FATES, &self.fates))?;
         writeln!(out, "{}", self.cuts)?;
         writeln!(out, "{}", self.enabling)?;
+        writeln!(out, "{}", self.left)?;
         writeln!(out, "{}", self.framings)?;
         writeln!(out, "{}", self.noted)?;
         writeln!(out, "{}", self.lines)?;

@@ -52,6 +52,12 @@ static uint64_t number(const uint8_t *bytes, size_t size)
     return value;
 }
 
+/* The packets still to go at a circuit, as a panel reads them in the sender's record. Copies are not counted. */
+static unsigned long packets_left(const uint8_t *record, size_t c)
+{
+    return (unsigned long)number(record + AES18_SENDER_LEFT + AES18_SENDER_CIRCUIT * c, 2);
+}
+
 /*
  * Makes the blocks, one behind the other, and offers the messages of each before it is made. The system packet of the first block enables the priorities
  * of the two circuits and no others, in that block and in the later ones.
@@ -70,6 +76,7 @@ static void make_blocks(uint8_t *bits)
             check("offering",
                   aes18_sender_offer(record, sizeof record, store, sizeof store, c, priority[c], repetition[c],
                                      (const uint8_t *)messages[b][c], strlen(messages[b][c])));
+        printf("packets still to go: %lu at circuit 0, %lu at circuit 1\n", packets_left(record, 0), packets_left(record, 1));
         check("block making",
               aes18_sender_block(record, sizeof record, store, sizeof store, BLOCK_BITS, USABLE_BITS, b == 0, enable, 1, info, sizeof info,
                                  bits + b * BLOCK_BYTES, BLOCK_BYTES, answer, sizeof answer));

@@ -6,25 +6,25 @@ use crate::packet::{listed, packet_count, Circuit};
 use crate::LONGEST_MESSAGE;
 
 /// Bytes of a sender's record.
-pub const SENDER_RECORD: usize = 47;
+pub const SENDER_RECORD: usize = 55;
 /// Bytes of a receiver's record.
 pub const RECEIVER_RECORD: usize = 61;
 /// Where the slots begin in both records.
 pub const SLOTS: usize = 13;
 /// Bytes of a slot of a sender's record.
-pub const SENDER_SLOT: usize = 8;
+pub const SENDER_SLOT: usize = 10;
 /// Bytes of a slot of a receiver's record.
 pub const RECEIVER_SLOT: usize = 6;
 /// Where a sender's record tells the circuit last served.
-pub const LAST_SERVED: usize = 45;
+pub const LAST_SERVED: usize = 53;
 /// Where a sender's record tells the enable bits in force.
-pub const ENABLE: usize = 46;
+pub const ENABLE: usize = 54;
 /// All four priorities enabled.
 pub const ALL_ENABLED: u8 = 15;
 /// Where a receiver's record tells the framing.
 pub const FRAMING_PLACE: usize = 37;
 
-/// The sender's record of no circuits: in each slot index, priority, repetition, copy and length 0, and place 1; all priorities enabled.
+/// The sender's record of no circuits: in each slot place 1, as behind a message of no bytes, and all else 0; all priorities enabled.
 pub const NO_SENDER: [u8; SENDER_RECORD] = {
     let mut record = [0; SENDER_RECORD];
     record[SLOTS + 6] = 1;
@@ -70,10 +70,12 @@ pub struct SenderSlot {
     pub length: usize,
     /// Packets of that message of which every copy is placed.
     pub place: usize,
+    /// Packets still to go: those of which some copy is still to place.
+    pub left: usize,
 }
 
 impl SenderSlot {
-    fn unpack(bytes: &[u8]) -> SenderSlot {
+    pub fn unpack(bytes: &[u8]) -> SenderSlot {
         SenderSlot {
             index: bytes[0],
             priority: bytes[1],
@@ -81,24 +83,26 @@ impl SenderSlot {
             copy: bytes[3],
             length: number(&bytes[4..]),
             place: number(&bytes[6..]),
+            left: number(&bytes[8..]),
         }
     }
 
     pub fn pack(&self) -> [u8; SENDER_SLOT] {
-        let ([l0, l1], [p0, p1]) = (
-            (self.length as u16).to_le_bytes(),
-            (self.place as u16).to_le_bytes(),
-        );
-        [
-            self.index,
-            self.priority,
-            self.repetition,
-            self.copy,
-            l0,
-            l1,
-            p0,
-            p1,
-        ]
+        let mut bytes = [0; SENDER_SLOT];
+        bytes[..4].copy_from_slice(&[self.index, self.priority, self.repetition, self.copy]);
+        bytes[4..6].copy_from_slice(&(self.length as u16).to_le_bytes());
+        bytes[6..8].copy_from_slice(&(self.place as u16).to_le_bytes());
+        bytes[8..].copy_from_slice(&(self.left as u16).to_le_bytes());
+        bytes
+    }
+
+    /// How many packets have some copy still to place: those whose last copy, of all copies the one numbered `packet * each`, is not yet placed.
+    pub fn still_to_go(&self) -> usize {
+        let each = usize::from(self.repetition) + 1;
+        let placed = self.place * each + usize::from(self.copy);
+        (1..=packet_count(self.length))
+            .filter(|packet| packet * each > placed)
+            .count()
     }
 
     fn in_range(&self) -> bool {
@@ -108,6 +112,7 @@ impl SenderSlot {
             && self.copy <= self.repetition
             && self.length <= LONGEST_MESSAGE
             && self.place <= packet_count(self.length)
+            && self.left == self.still_to_go()
     }
 }
 

@@ -1,5 +1,5 @@
 //! 01, "Blocks" and the calls of a sender: a queue of waiting copies for each circuit, and blocks made of them. The system packets that were sent
-//! are kept, and the last of them tells which priorities are enabled (02, ask 4).
+//! are kept, and the last of them tells which priorities are enabled (02, ask 4). The packets still to go are counted in the queues (02, ask 5).
 
 use crate::bits::bytes_of;
 use crate::hdlc::{frame, FLAG};
@@ -9,7 +9,7 @@ use crate::records::{
     SENDER_SLOT, SLOTS,
 };
 use crate::{LONGEST_MESSAGE, REGION, SENDER_STORE};
-use std::collections::VecDeque;
+use std::collections::{BTreeSet, VecDeque};
 use std::ops::Range;
 
 /// A circuit and what waits there.
@@ -22,38 +22,61 @@ struct Queue {
     length: usize,
     /// Continuity index of the first packet of the next message.
     next_index: u8,
-    /// The packets of all copies that wait, in order.
-    copies: VecDeque<Vec<u8>>,
+    /// The packets of all copies that wait, in order, each with its number in the message.
+    copies: VecDeque<(usize, Vec<u8>)>,
     /// What the record says of the copy while nothing waits: 0, if the record was made by calls.
     idle_copy: u8,
 }
 
 impl Queue {
-    /// The queue that a slot tells, with the message in `region`.
+    /// The queue that a slot tells, with the message in `region`: every copy of it waits but those placed.
     fn of(circuit: Circuit, slot: &SenderSlot, region: &[u8]) -> Queue {
-        let first_index = ((usize::from(slot.index) + 8 * REGION - slot.place) % 8) as u8;
-        let packets = packets(circuit, &region[..slot.length], first_index, slot.priority);
-        let left = packets.len() - slot.place;
-        let each = usize::from(slot.repetition) + 1;
-        let copies = packets.into_iter().flat_map(|packet| vec![packet; each]);
-        Queue {
+        let mut queue = Queue {
             circuit,
-            priority: slot.priority,
-            repetition: slot.repetition,
-            length: slot.length,
-            next_index: ((usize::from(slot.index) + left) % 8) as u8,
-            copies: copies
-                .skip(slot.place * each + usize::from(slot.copy))
-                .collect(),
-            idle_copy: if left == 0 { slot.copy } else { 0 },
+            priority: 0,
+            repetition: 0,
+            length: 0,
+            next_index: ((usize::from(slot.index) + 8 * REGION - slot.place) % 8) as u8,
+            copies: VecDeque::new(),
+            idle_copy: 0,
+        };
+        queue.take(slot.priority, slot.repetition, &region[..slot.length]);
+        let placed = slot.place * queue.each() + usize::from(slot.copy);
+        queue.copies.drain(..placed.min(queue.copies.len()));
+        if queue.copies.is_empty() {
+            queue.idle_copy = slot.copy;
         }
+        queue
+    }
+
+    /// Takes a message: all copies of its packets then wait.
+    fn take(&mut self, priority: u8, repetition: u8, message: &[u8]) {
+        let packets = packets(self.circuit, message, self.next_index, priority);
+        self.priority = priority;
+        self.repetition = repetition;
+        self.length = message.len();
+        self.next_index = ((usize::from(self.next_index) + packets.len()) % 8) as u8;
+        let each = self.each();
+        let numbered = packets.into_iter().enumerate();
+        self.copies = numbered.flat_map(|packet| vec![packet; each]).collect();
+        self.idle_copy = 0;
+    }
+
+    /// How many copies a packet has.
+    fn each(&self) -> usize {
+        usize::from(self.repetition) + 1
+    }
+
+    /// The packets still to go: those of which some copy waits.
+    fn left(&self) -> usize {
+        let numbers: BTreeSet<usize> = self.copies.iter().map(|(number, _)| *number).collect();
+        numbers.len()
     }
 
     fn slot(&self) -> SenderSlot {
-        let each = usize::from(self.repetition) + 1;
-        let placed = packet_count(self.length) * each - self.copies.len();
+        let placed = packet_count(self.length) * self.each() - self.copies.len();
         let (index, copy) = match self.copies.front() {
-            Some(packet) => (packet[1] >> 2 & 7, (placed % each) as u8),
+            Some((_, packet)) => (packet[1] >> 2 & 7, (placed % self.each()) as u8),
             None => (self.next_index, self.idle_copy),
         };
         SenderSlot {
@@ -62,7 +85,8 @@ impl Queue {
             repetition: self.repetition,
             copy,
             length: self.length,
-            place: placed / each,
+            place: placed / self.each(),
+            left: self.left(),
         }
     }
 }
@@ -129,7 +153,7 @@ impl Sender {
         Sender::resume(&record, &[0; SENDER_STORE])
     }
 
-    /// The sender that the first 47 bytes and the store tell, or refusal 14 or 5.
+    /// The sender that the first 55 bytes and the store tell, or refusal 14 or 5.
     pub fn resume(bytes: &[u8], store: &[u8]) -> Result<Sender, u32> {
         let told = SenderRecord::unpack(bytes).ok_or(14u32)?;
         if store.len() < SENDER_STORE {
@@ -198,15 +222,7 @@ impl Sender {
         if !queue.copies.is_empty() {
             return Err(10);
         }
-        let slot = SenderSlot {
-            index: queue.next_index,
-            priority: priority as u8,
-            repetition: repetition as u8,
-            copy: 0,
-            length: message.len(),
-            place: 0,
-        };
-        *queue = Queue::of(queue.circuit, &slot, message);
+        queue.take(priority as u8, repetition as u8, message);
         store[circuit as usize * REGION..][..message.len()].copy_from_slice(message);
         Ok(())
     }
@@ -253,7 +269,7 @@ impl Sender {
             self.systems.push(packet);
         }
         while let Some(number) = self.pick() {
-            let frame = frame(&self.queues[number].copies[0]);
+            let frame = frame(&self.queues[number].copies[0].1);
             if writing.bits.len() + frame.len() + FLAG.len() > u {
                 break;
             }

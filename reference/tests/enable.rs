@@ -1,21 +1,11 @@
 //! The enable bits in force hold over from block to block (02, ask 4).
 
-use aes18_reference::calls::{self, number, BlockCall, OfferCall, BLOCK_ANSWER};
+mod end;
+
+use aes18_reference::calls::{self, BlockCall, OfferCall, BLOCK_ANSWER};
 use aes18_reference::records::{ENABLE, NO_SENDER, SENDER_RECORD};
-use aes18_reference::sender::Sender;
 use aes18_reference::{LONGEST_MESSAGE, SENDER_STORE};
-
-const LIST: [u8; 12] = [1, 0, 0, 2, 1, 7, 3, 0, 0, 0x7E, 1, 0];
-
-/// A block call without a system packet; the enable argument would bar all.
-const PLAIN: BlockCall = BlockCall {
-    n: 1500,
-    u: 1500,
-    system: 0,
-    enable: 0,
-    code: 0,
-    information: &[],
-};
+use end::{End, LIST, PLAIN};
 
 /// A block call with a system packet of these bits.
 fn system(enable: u64) -> BlockCall<'static> {
@@ -36,24 +26,7 @@ fn alone(enable: u64) -> BlockCall<'static> {
     }
 }
 
-/// A sender that keeps its system packets, and beside it the record that goes from call to call.
-struct End {
-    sender: Sender,
-    record: [u8; SENDER_RECORD],
-    store: Vec<u8>,
-}
-
 impl End {
-    fn fresh() -> End {
-        let mut record = [0x5A; SENDER_RECORD];
-        assert_eq!(calls::sender_list(&mut record, &LIST), 0);
-        End {
-            sender: Sender::list(&LIST).unwrap(),
-            record,
-            store: vec![0; SENDER_STORE],
-        }
-    }
-
     /// A fresh one with a message of one packet at each circuit, its priority the circuit's number.
     fn waiting() -> End {
         let mut end = End::fresh();
@@ -65,45 +38,6 @@ impl End {
         for circuit in 0..4 {
             assert_eq!(self.offer(circuit, circuit, 0, b"a message"), 0);
         }
-    }
-
-    fn offer(&mut self, circuit: u64, priority: u64, repetition: u64, message: &[u8]) -> u32 {
-        let call = OfferCall {
-            circuit,
-            priority,
-            repetition,
-            message,
-        };
-        let answered = calls::sender_offer(&mut self.record, &mut self.store, call);
-        let store = &mut self.store;
-        let offered = self
-            .sender
-            .offer(store, circuit, priority, repetition, message);
-        assert_eq!(answered, number(&offered));
-        assert_eq!(self.record, self.sender.record());
-        answered
-    }
-
-    /// A block in `room` bytes with so much of the store: the circuits of its frames, or the refusal's number.
-    fn block_in(
-        &mut self,
-        call: BlockCall<'_>,
-        store: usize,
-        room: usize,
-    ) -> Result<Vec<usize>, u32> {
-        let (mut block, mut again) = (vec![0; room], vec![0; room]);
-        let (store, answer) = (&self.store[..store], &mut [0; BLOCK_ANSWER]);
-        let answered = calls::sender_block(&mut self.record, store, call, &mut block, answer);
-        let made = self
-            .sender
-            .block(store, call.n, call.u, call.wanted(), &mut again);
-        assert_eq!((answered, block), (number(&made), again));
-        assert_eq!(self.record, self.sender.record());
-        made.map(|made| made.frames.iter().filter_map(|f| f.circuit).collect())
-    }
-
-    fn block(&mut self, call: BlockCall<'_>) -> Result<Vec<usize>, u32> {
-        self.block_in(call, SENDER_STORE, 188)
     }
 }
 

@@ -19,7 +19,8 @@ extern "C" {
         list_len: usize,
     ) -> u32;
 
-    /// Offers a message at a circuit.
+    /// Offers a message at a circuit. Bytes 21 and 22 of the record, lowest first, are the packets still to go at circuit 0, and each 10 bytes on stand
+    /// those of the next number: the packets of the pending message of which some copy is still to place, 0 where none is pending.
     pub fn aes18_sender_offer(
         record: *mut u8,
         record_len: usize,
@@ -33,7 +34,7 @@ extern "C" {
     ) -> u32;
 
     /// Makes a block of `n` user bits of which `u` may be used. `system` is 0 for no system packet; `enable`, `code` and `info` are then not looked
-    /// at, and the enable bits in force, byte 46 of the record, stay. Else `enable` is in force, in this block and all later ones until another system
+    /// at, and the enable bits in force, byte 54 of the record, stay. Else `enable` is in force, in this block and all later ones until another system
     /// packet. The answer, 8 bytes: frames placed, bits used, each 4 bytes lowest first.
     pub fn aes18_sender_block(
         record: *mut u8,

@@ -11,7 +11,7 @@ pub const RECEIVER_STORE: usize = SYSTEM_PLACE + 16;
 /// Bytes of the longest message.
 pub const LONGEST_MESSAGE: usize = 4094;
 /// Bytes of a sender's record.
-pub const SENDER_RECORD: usize = 47;
+pub const SENDER_RECORD: usize = 55;
 /// Bytes of a receiver's record.
 pub const RECEIVER_RECORD: usize = 61;
 /// Bytes of a record of totals.

@@ -8,7 +8,7 @@ use crate::system::SystemPacket;
 
 /// A sender: the circuits it lists, what waits to be sent there, and the enable bits in force.
 ///
-/// It is a value of 47 bytes; a copy of it is a sender of its own, with a store of its own.
+/// It is a value of 55 bytes; a copy of it is a sender of its own, with a store of its own.
 ///
 /// ```
 /// use aes18::{Circuit, Sender, SENDER_STORE};
@@ -106,13 +106,35 @@ impl Sender {
         })
     }
 
-    /// How many packets of the circuit's message have a copy still to place; 0 where nothing waits there or the circuit is not listed.
+    /// The packets still to go at a circuit: how many packets of its pending message have some copy still to place. It is 0 exactly where nothing
+    /// is pending, so that [`Sender::offer`] is not refused by 10, and where the circuit is not listed. Copies are not counted: a packet counts until
+    /// its last copy is placed. The number stands in the record; in one out of range it may be any.
+    ///
+    /// ```
+    /// use aes18::{Circuit, Sender, SENDER_STORE};
+    ///
+    /// # fn main() -> Result<(), aes18::Refusal> {
+    /// let mut store = [0; SENDER_STORE];
+    /// let mut bits = [0; 32];
+    /// let mut sender = Sender::list(&[Circuit { address: 0x10, extension: None }])?;
+    /// assert_eq!(sender.waiting(0), 0);
+    ///
+    /// // 20 bytes and a header of 2 are two packets, each sent twice. A block of 256 bits takes one copy of the first.
+    /// sender.offer(&mut store, 0, 2, 1, &[0x55; 20])?;
+    /// assert_eq!(sender.waiting(0), 2);
+    /// sender.block(&store, 256, 256, None, &mut bits)?;
+    /// assert_eq!(sender.waiting(0), 2);
+    /// sender.block(&store, 256, 256, None, &mut bits)?;
+    /// assert_eq!(sender.waiting(0), 1);
+    /// # Ok(())
+    /// # }
+    /// ```
     pub fn waiting(&self, circuit: usize) -> usize {
         if circuit >= usize::from(self.record[0]) {
             return 0;
         }
         let mut slots = self.record[SLOTS..].chunks_exact(SLOT);
-        slots.nth(circuit).map_or(0, waiting_in)
+        slots.nth(circuit).map_or(0, left_in)
     }
 
     /// The enable bits in force: bit 3 for priority 3 down to bit 0 for priority 0. They are those of the last system packet sent, or all four if none
@@ -155,17 +177,13 @@ impl Sender {
     }
 }
 
-/// Where the record's four slots begin, one for each circuit number, and a slot's bytes. Its bytes 4 and 5 are the length of the last message,
-/// its bytes 6 and 7 the packets of it of which every copy is placed, lowest byte first.
+/// Where the record's four slots begin, one for each circuit number, and a slot's bytes.
 const SLOTS: usize = 13;
-const SLOT: usize = 8;
+const SLOT: usize = 10;
 /// The record's byte that holds the enable bits in force.
-const ENABLE: usize = 46;
+const ENABLE: usize = 54;
 
-/// The packets of a slot's message that wait: those the message has, less those placed.
-fn waiting_in(slot: &[u8]) -> usize {
-    let length = usize::from(u16::from_le_bytes([slot[4], slot[5]]));
-    let placed = usize::from(u16::from_le_bytes([slot[6], slot[7]]));
-    let header = if length < 16 { 1 } else { 2 };
-    (header + length).div_ceil(16).saturating_sub(placed)
+/// The packets still to go of a slot: its last two bytes, lowest first.
+fn left_in(slot: &[u8]) -> usize {
+    u16::from_le_bytes([slot[8], slot[9]]).into()
 }

@@ -3,6 +3,7 @@
 pub mod cuts;
 pub mod enabling;
 pub mod framings;
+pub mod left;
 pub mod lengths;
 pub mod lines;
 pub mod listing;

@@ -1,21 +1,21 @@
 //! Records as any bytes: noise, records made by calls, and such records with bytes changed.
 
 use crate::both::{Both, Compared};
-use crate::inputs::{self, any_length, every_byte};
+use crate::inputs::{self, any_length, every_byte, mend_left};
 use crate::random::Random;
 use crate::stream::stream;
 use aes18_reference::bits::bytes_of;
 use aes18_reference::calls::{BlockCall, OfferCall, ReadCall, BLOCK_ANSWER, READ_ANSWER};
-use aes18_reference::packet::System;
+use aes18_reference::packet::{packet_count, System};
 use aes18_reference::receiver::Receiver;
 use aes18_reference::records::{RECEIVER_RECORD, RECEIVER_SLOT, SENDER_RECORD, SENDER_SLOT, SLOTS};
 use aes18_reference::sender::Sender;
 use aes18_reference::{RECEIVER_STORE, SENDER_STORE};
 
 /// Bytes of a record and a store that go together, with the record's circuit list.
-struct Base {
-    record: Vec<u8>,
-    store: Vec<u8>,
+pub struct Base {
+    pub record: Vec<u8>,
+    pub store: Vec<u8>,
     list: Vec<u8>,
 }
 
@@ -42,7 +42,7 @@ fn system(random: &mut Random) -> Option<System<'static>> {
 }
 
 /// A sender's, some messages waiting or half placed, and any enable bits in force.
-fn sender(random: &mut Random) -> Base {
+pub fn sender(random: &mut Random) -> Base {
     let list = inputs::list(random);
     let mut sender = Sender::list(&list).expect("an accepted list");
     let mut store = random.bytes(SENDER_STORE);
@@ -99,18 +99,14 @@ pub fn any_sender(both: &mut Both, random: &mut Random) -> Compared<()> {
             repetition: random.argument(5),
             message: &message,
         };
-        both.sender_offer(&mut any_record(random, &base.record), &mut store, call)?;
+        let mut record = any_sender_record(random, &base.record);
+        both.sender_offer(&mut record, &mut store, call)?;
         let information = inputs::information(random);
         let call = inputs::block_call(random, &information);
         let mut block = inputs::buffer(random, call.n);
         let mut answer = any_length(random, &[0x5A; BLOCK_ANSWER]);
-        both.sender_block(
-            &mut any_record(random, &base.record),
-            &store,
-            call,
-            &mut block,
-            &mut answer,
-        )?;
+        let mut record = any_sender_record(random, &base.record);
+        both.sender_block(&mut record, &store, call, &mut block, &mut answer)?;
     }
     Ok(())
 }
@@ -128,18 +124,24 @@ pub fn any_receiver(both: &mut Both, random: &mut Random) -> Compared<()> {
             to: random.pick(&[end, end, end, end - 1, end + 1, u64::MAX, 0]),
         };
         let mut answer = any_length(random, &[0x5A; READ_ANSWER]);
-        both.receiver_read(
-            &mut any_record(random, &base.record),
-            &mut store,
-            call,
-            &mut answer,
-        )?;
+        let changed = changed(random, &base.record);
+        let mut record = any_length(random, &changed);
+        both.receiver_read(&mut record, &mut store, call, &mut answer)?;
     }
     Ok(())
 }
 
-/// The record, or with some bytes changed, or noise; sometimes too short, or longer.
-fn any_record(random: &mut Random, record: &[u8]) -> Vec<u8> {
+/// The record, or with some bytes changed, or noise; the packets still to go made right in half of them. Sometimes too short, or longer.
+fn any_sender_record(random: &mut Random, record: &[u8]) -> Vec<u8> {
+    let mut bytes = changed(random, record);
+    if random.once_in(2) {
+        mend_left(&mut bytes);
+    }
+    any_length(random, &bytes)
+}
+
+/// The record, or with some bytes changed, or noise.
+fn changed(random: &mut Random, record: &[u8]) -> Vec<u8> {
     let mut bytes = record.to_vec();
     match random.below(8) {
         0 => bytes = random.bytes(record.len()),
@@ -152,15 +154,24 @@ fn any_record(random: &mut Random, record: &[u8]) -> Vec<u8> {
         }
         _ => {}
     }
-    any_length(random, &bytes)
+    bytes
 }
 
-/// Every byte of a sender's record with all its 256 values.
+/// The record with this byte, and the same with the packets still to go made right.
+fn with_byte(record: &[u8], at: usize, value: u8) -> [Vec<u8>; 2] {
+    let mut changed = record.to_vec();
+    changed[at] = value;
+    let mut mended = changed.clone();
+    mend_left(&mut mended);
+    [changed, mended]
+}
+
+/// Every byte of a sender's record with all its 256 values, each also with the packets still to go made right.
 pub fn every_sender_byte(both: &mut Both, random: &mut Random) -> Compared<()> {
     let base = sender(random);
-    for (at, value) in every_byte(SENDER_RECORD) {
-        let (mut record, mut store) = (base.record.clone(), base.store.clone());
-        record[at] = value;
+    let bytes = every_byte(SENDER_RECORD);
+    for mut record in bytes.flat_map(|(at, value)| with_byte(&base.record, at, value)) {
+        let mut store = base.store.clone();
         let call = OfferCall {
             circuit: random.next() % 4,
             priority: 2,
@@ -216,7 +227,8 @@ const EDGES: [u16; 15] = [
     0, 1, 2, 15, 16, 17, 30, 31, 255, 256, 257, 4093, 4094, 4095, 65_535,
 ];
 
-/// Slots of a sender's record with lengths and places at the edges.
+/// Slots of a sender's record with lengths and places at the edges. The packets still to go are those that these tell, or the message's less the place
+/// modulo 65,536, also where the place is past them.
 pub fn sender_edges(both: &mut Both, random: &mut Random) -> Compared<()> {
     let base = sender(random);
     let slot = random.below(base.list.len() / 3);
@@ -225,14 +237,15 @@ pub fn sender_edges(both: &mut Both, random: &mut Random) -> Compared<()> {
         .flat_map(|length| EDGES.map(|place| (*length, place)))
     {
         let mut record = base.record.clone();
-        put(&mut record, SLOTS + SENDER_SLOT * slot + 4, length, place);
-        both.sender_block(
-            &mut record,
-            &base.store,
-            plain(700, 700),
-            &mut [0x5A; 88],
-            &mut [0x5A; 8],
-        )?;
+        let at = SLOTS + SENDER_SLOT * slot + 4;
+        put(&mut record, at, length, place);
+        let less = (packet_count(length.into()) as u16).wrapping_sub(place);
+        record[at + 4..at + 6].copy_from_slice(&less.to_le_bytes());
+        let mut mended = record.clone();
+        mend_left(&mut mended);
+        let (block, answer) = (&mut [0x5A; 88], &mut [0x5A; 8]);
+        both.sender_block(&mut record, &base.store, plain(700, 700), block, answer)?;
+        both.sender_block(&mut mended, &base.store, plain(700, 700), block, answer)?;
     }
     Ok(())
 }

@@ -38,7 +38,8 @@ use Rattle.exported.proofs.SenderFitsKept.{fits-fresh, fits-offered, fi
 slot-Bytes : (t : Slot) → SenderSlotFits t → Bytes (slotBytes t)
 unfolding Bytes slotBytes
 slot-Bytes t f =
-    let words = Bytes-append (lowBytes 2 (t .length)) (lowBytes 2 (t .place)) (lowBytes-Bytes 2 (t .length)) (lowBytes-Bytes 2 (t .place)) in
+    let two = Bytes-append (lowBytes 2 (t .length)) (lowBytes 2 (t .place)) (lowBytes-Bytes 2 (t .length)) (lowBytes-Bytes 2 (t .place)) in
+    let words = Bytes-append (lowBytes 2 (t .length) ++ lowBytes 2 (t .place)) (lowBytes 2 (t .left)) two (lowBytes-Bytes 2 (t .left)) in
     (f .index, (f .priority, (f .repetition, (f .copy, words))))
 
 slots-Bytes : (ts : List Slot) → Four SenderSlotFits ts → Bytes (slotsBytes ts)

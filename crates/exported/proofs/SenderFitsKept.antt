@@ -16,7 +16,7 @@ use Rattle.packet.proofs.Segments.{packets-most}
 use Rattle.offering.specs.declared.Slot.{Slot}
 use Rattle.offering.specs.declared.Sender.{Sender}
 use Rattle.offering.specs.Record.{slotAt, freshSlot, fresh, inRange}
-use Rattle.offering.specs.Offering.{offerRefusal, offeredSender, senderAfterOffer}
+use Rattle.offering.specs.Offering.{offerRefusal, offeredSlot, offeredSender, senderAfterOffer}
 use Rattle.offering.proofs.Ranges.{SlotFacts, slotInRange-facts, slotInRange-slotAt}
 use Rattle.offering.proofs.Offers.{offerRefusal-zero}
 use Rattle.picking.specs.Picking.{pick, advanced, served}
@@ -47,6 +47,7 @@ fits-fresh list are =
                   copy = omega arith;
                   lengthFits = omega arith;
                   place = omega arith;
+                  left = omega arith;
                 });
           };
       last = omega arith;
@@ -65,12 +66,13 @@ slot-fits t f =
       copy = omega (arith, f .copy, f .repetition);
       lengthFits = omega (arith, f .short);
       place = omega (arith, f .place, packets-most (t .length) (f .short));
+      left = omega (arith, f .left, packets-most (t .length) (f .short));
     }
 
 -- ---- offering
 
 pub fits-offered : (s : Sender) (store : List ℕ) (c p r : ℕ) (message : List ℕ) → SenderFits s → SenderFits (senderAfterOffer s store c p r message)
-unfolding senderAfterOffer offeredSender
+unfolding senderAfterOffer offeredSlot offeredSender
 fits-offered s store c p r message fits = go (eqb (offerRefusal s store c p r message) 0) refl
   where
     go : (t : Bool) → eqb (offerRefusal s store c p r message) 0 ≡ t → SenderFits (cond t (offeredSender s c p r message) s)
@@ -89,6 +91,7 @@ fits-offered s store c p r message fits = go (eqb (offerRefusal s store c p r me
                 short = f .message;
                 place = omega arith;
                 copy = omega arith;
+                left = omega arith;
               }))
               (fits .slots);
           last = fits .last;

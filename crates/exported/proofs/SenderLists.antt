@@ -1,5 +1,5 @@
 -- Lists of the sender's exported calls leave, in bytes, what document 01's calls leave: the record's bytes carry the record from call to call.
-use Prim.Native.Nat.{ℕ, _≤_, _<_}
+use Prim.Native.Nat.{ℕ, zero, suc, _+_, _*_, _≤_, _<_}
 use mathlib.Core.Bool.{Bool, true, false, cond, not, _&&_}
 use mathlib.Core.List.{List, [], _∷_}
 use mathlib.Core.Path.{_≡_, refl, sym, ap, subst, _∙_}
@@ -8,13 +8,18 @@ use lib.ListN.{length}
 use lib.Dec.{leb, eqb}
 use Rattle.bits.specs.Bits.{Bytes}
 use Rattle.offering.specs.declared.Sender.{Sender}
+use Rattle.offering.specs.Record.{slotAt}
 use Rattle.sender.specs.Blocks.{System, bufferAfterBlock}
 use Rattle.sender.specs.BlockCalls.{framesPlaced, bitsUsed}
-use Rattle.queues.specs.Calls.{Call, offer, block, End, freshEnd, accepted, afterCall, afterCalls}
+use Rattle.queues.specs.Calls.{Call, offer, block, End, freshEnd, accepted, afterCall, afterCalls, queuesAfterCalls}
 use Rattle.queues.specs.EnableBits.{enableAfter, EnableInForce}
+use Rattle.queues.specs.Queues.{queueAt}
+use Rattle.queues.specs.Sent.{eachOnce}
+use Rattle.queues.specs.PacketsLeft.{LeftCounts}
 use Rattle.queues.proofs.EnableInForce.{enable-in-force}
-use Rattle.layout.specs.Layout.{byteAt}
-use Rattle.sender_layout.specs.SenderBytes.{senderLength, senderIn}
+use Rattle.queues.proofs.LeftCounts.{left-counts}
+use Rattle.layout.specs.Layout.{byteAt, numberAt}
+use Rattle.sender_layout.specs.SenderBytes.{senderLength, slotIn, senderIn}
 use Rattle.sender_layout.specs.Answers.{blockAnswerLength, placedTold, usedTold}
 use Rattle.aes18.specs.Room.{noRoom}
 use Rattle.aes18.specs.SenderCalls.{listRecord, blockWritten, blockAnswer}
@@ -44,6 +49,15 @@ after-cond : (room : Bool) (s : End) (c : Call) (cs : List Call) → afterCalls 
 unfolding afterCalls
 after-cond true s c cs = refl
 after-cond false s c cs = refl
+
+-- where a record's bytes tell the packets still to go
+left-told : (bytes : List ℕ) (c : ℕ) → c < 4 → numberAt 2 bytes (13 + 10 * c + 8) ≡ slotAt (senderIn bytes) c .left
+unfolding senderIn slotIn slotAt
+left-told bytes zero h = refl
+left-told bytes (suc zero) h = refl
+left-told bytes (suc (suc zero)) h = refl
+left-told bytes (suc (suc (suc zero))) h = refl
+left-told bytes (suc (suc (suc (suc c)))) h = absurd (omega arith)
 
 module _ (bytes : List ℕ) (room : senderLength ≤ length bytes) where
   module _ (e : Lent) (s : End) (h : CarriedEnd bytes e s) (answer : List ℕ) where
@@ -130,12 +144,22 @@ module _ (bytes : List ℕ) (room : senderLength ≤ length bytes) where
   calls-carried are list listed store cs =
       rest-carried cs _ (freshEnd list store) (record { sender = list-carries bytes are room list listed; store = refl })
 
-  -- and byte 46 of the record is the enable bits in force
+  -- and byte 54 of the record is the enable bits in force
   pub enable-byte : Bytes bytes → (list : List ℕ) → Bytes list → (store : List ℕ) (cs : List LentCall)
-      → byteAt (afterLentCalls (record { bytes = listRecord bytes list; store = store }) cs .bytes) 46 ≡ enableAfter list store (callsOf cs)
+      → byteAt (afterLentCalls (record { bytes = listRecord bytes list; store = store }) cs .bytes) 54 ≡ enableAfter list store (callsOf cs)
   unfolding EnableInForce senderIn
   enable-byte are list listed store cs =
       ap (λ (s : Sender). s .enable) (calls-carried are list listed store cs .sender .sender) ∙ enable-in-force list store (callsOf cs)
+
+  -- and the last two of the ten bytes of each circuit number are the packets of which copies wait
+  pub left-bytes : Bytes bytes → (list : List ℕ) → Bytes list → (store : List ℕ) (cs : List LentCall) (c : ℕ) → c < 4
+      → numberAt 2 (afterLentCalls (record { bytes = listRecord bytes list; store = store }) cs .bytes) (13 + 10 * c + 8)
+      ≡ length (eachOnce (queueAt (queuesAfterCalls list store (callsOf cs)) c .copies))
+  unfolding LeftCounts
+  left-bytes are list listed store cs c four =
+      left-told (afterLentCalls (record { bytes = listRecord bytes list; store = store }) cs .bytes) c four
+      ∙ ap (λ (s : Sender). slotAt s c .left) (calls-carried are list listed store cs .sender .sender)
+      ∙ left-counts list store (callsOf cs) c
 
 -- ---- a record shorter than it has to be
 

@@ -12,9 +12,9 @@ use Rattle.bits.proofs.Tests.{and-left, and-right, and-both}
 use Rattle.packet.specs.declared.Circuit.{Circuit}
 use Rattle.packet.specs.Lists.{anyOf, allOf, those, AllAre}
 use Rattle.queues.specs.Queues.{Copy}
-use Rattle.queues.specs.Sent.{placedAt, framesOf}
+use Rattle.queues.specs.Sent.{placedAt, eachOnce, framesOf}
 use Rattle.packet.proofs.Choices.{cond-either}
-use Rattle.link.specs.Demand3.{Piece, kept, replaced, originals, Pass, joinedBits, blocks, Frame, frameLength, frames, keptBits, resulting, result, together, cameWhole, isCopyOf, comes, eachOnce, came, fromFirst, upToLast, fromFirstToLast, lost, atMostSixLost}
+use Rattle.link.specs.Demand3.{Piece, kept, replaced, originals, Pass, joinedBits, blocks, Frame, frameLength, frames, keptBits, resulting, result, together, cameWhole, isCopyOf, comes, came, fromFirst, upToLast, fromFirstToLast, lost, atMostSixLost}
 use Rattle.link.specs.Channels.{Clean}
 use Rattle.link.proofs.ResultingBits.{keptBits-append, begins-kept, row-together}
 use Rattle.link.proofs.SamePackets.{frameLength-pos}

@@ -10,8 +10,7 @@ use lib.Dec.{eqb}
 use borrow.Author.Tests.{eq-eqb, ne-eqb}
 use Rattle.packet.specs.Lists.{anyOf, those}
 use Rattle.queues.specs.Queues.{Copy}
-use Rattle.queues.specs.Sent.{Sent, copiesOf, Numbered}
-use Rattle.link.specs.Demand3.{eachOnce}
+use Rattle.queues.specs.Sent.{eachOnce, Sent, copiesOf, Numbered}
 use Rattle.link.proofs.Steps.{ThinnedBy, Thinned, cameOf}
 
 -- a copy placed, and whether its frame came whole

@@ -19,7 +19,7 @@ use Rattle.packet.specs.Lists.{anyOf, allOf, those, AllAre}
 use Rattle.queues.specs.Queues.{Copy, Message, Queues, freshQueues, Placed}
 use Rattle.queues.specs.Effects.{Effect, TakenBlock, bitsOfBlock, messagesSent, blocksTaken}
 use Rattle.queues.specs.Calls.{Call, offer, block, End, freshEnd, effects, blocksMade}
-use Rattle.queues.specs.Sent.{messagesAt, placedAt, framesOf}
+use Rattle.queues.specs.Sent.{messagesAt, placedAt, eachOnce, framesOf}
 use Rattle.notices.specs.declared.Fate.{Fate}
 use Rattle.notices.specs.declared.Fate.the-variants.{Copy as CopyFate, Begun, Held, Whole, Orphan, Wrong}
 use Rattle.notices.specs.declared.Notice.{Notice}
@@ -168,11 +168,6 @@ isCopyOf k i (some q) = alike k (q .circuit) && eqb (q .copy .number) i
 -- "A placed packet .. has come if the frame of a copy came whole. Otherwise it is lost"
 unfoldable pub comes : Pass → Circuit → ℕ → Bool
 comes p k i = anyOf (λ f. isCopyOf k i (f .whose) && cameWhole (result p) f) (frames p)
-
--- the numbers of the packets of copies, each once, in the order of the copies
-unfoldable pub eachOnce : List Copy → List ℕ
-eachOnce [] = []
-eachOnce (c ∷ cs) = c .number ∷ those (λ i. not (eqb i (c .number))) (eachOnce cs)
 
 -- of the packets placed at a circuit, "in the order in which packets were placed there", whether each came
 unfoldable pub came : Pass → Circuit → List Bool

@@ -24,7 +24,7 @@ use Rattle.framing.specs.Machine.{fresh as freshFraming}
 use Rattle.framing.specs.Range.{inRange as framingInRange, kept as framingKept, allZero, phaseRight, inFives}
 use Rattle.framing.specs.Scanning.{ended, stopped, scan}
 use Rattle.offering.specs.Record.{messageAt, pending, freshSlot as freshSendSlot, slotAt as sendSlotAt, slotInRange as sendSlotInRange, slotsInRange as sendSlotsInRange, inRange as sendInRange, storeLength as sendStoreLength, fresh as freshSender}
-use Rattle.offering.specs.Offering.{offerRefusal, offeredSender, offeredStore, senderAfterOffer, storeAfterOffer}
+use Rattle.offering.specs.Offering.{offerRefusal, offeredSlot, offeredSender, offeredStore, senderAfterOffer, storeAfterOffer}
 use Rattle.picking.specs.Picking.{enabled, goingRound, orElse, firstWaiting, waitsAt, pickFrom, pick, advanced, served, copiesWaiting}
 use Rattle.writing.specs.PacketParts.{packetAt}
 use Rattle.writing.specs.NextFrame.{nextPacket, nextFrame}
@@ -32,7 +32,7 @@ use Rattle.sender.specs.Blocks.{framesBits, flaggedFrames, blockOf, full, andTh
 use Rattle.queues.specs.Queues.{freshQueue, freshQueues, queueAt, copyOf, copiesFrom, messageCopies, messageFor, offered, offerQueues, frontHas, firstQueue, pickQueueFrom, pickQueue, behindFirst, behind, serveQueues, ruledQueues, Message, takenNone, andTaken, takingFirst, taking, takeUpTo, copiesInQueues, takeFrames}
 use Rattle.queues.specs.Effects.{takenFor, packetsTaken, bitsOfBlock, queuesAfterEffect, sentBy, takenBy, messagesSent, blocksTaken}
 use Rattle.queues.specs.Calls.{Call, offer, block, freshEnd, accepted, afterCall, effect, effectOf, effects, blocksMade}
-use Rattle.queues.specs.Sent.{messagesAt, placedAt, framesOf}
+use Rattle.queues.specs.Sent.{messagesAt, placedAt, eachOnce, framesOf}
 use Rattle.queues.proofs.BlocksAreQueues.{blocks-are-queues}
 use Rattle.packet.specs.Stores.{region}
 use Rattle.notices.specs.Stores.{systemPlace, storeLength, placeOf, storeAfterFate, storeAfterNotice}
@@ -44,7 +44,7 @@ use Rattle.notices.specs.Fates.{isCopy, lossOf, stillOpen, firstFate, lastFate,
 use Rattle.notices.specs.Heard.{heardAt, heardBy, systemHeard, heard}
 use Rattle.receiver.specs.Reading.{withFraming, passed, noticed, readBy, readScan, readRefusal, receiverAfterRead, storeAfterRead, bitsRead, readOf, answerToRead}
 use Rattle.receiver.specs.Reads.{ReadCall, afterRead, bitsOfRead, bitsOfReads, reportOf, told, toldByReads}
-use Rattle.link.specs.Demand3.{Piece, kept, replaced, Pass, messages, allFrom, messagesThatCame, joinedBits, blocks, packetsIn, framesFrom, framesInBlocks, frames, frameLength, originals, keptBits, newBit, resulting, result, values, isNumber, beginWith, together, cameWhole, isCopyOf, comes, eachOnce, came, fromFirst, upToLast, fromFirstToLast, lost, receiver, lossAt, lossesAt, handedFrom, handedAt, handedOver, notices, isPassed, isFrame, noOtherPasses, atMostSixLost, Given, BytesIn, circuitAt, Claim, Demand3}
+use Rattle.link.specs.Demand3.{Piece, kept, replaced, Pass, messages, allFrom, messagesThatCame, joinedBits, blocks, packetsIn, framesFrom, framesInBlocks, frames, frameLength, originals, keptBits, newBit, resulting, result, values, isNumber, beginWith, together, cameWhole, isCopyOf, comes, came, fromFirst, upToLast, fromFirstToLast, lost, receiver, lossAt, lossesAt, handedFrom, handedAt, handedOver, notices, isPassed, isFrame, noOtherPasses, atMostSixLost, Given, BytesIn, circuitAt, Claim, Demand3}
 use Rattle.link.proofs.ClaimHolds.{demand-3}
 
 -- ---- what the passes are made of
@@ -164,7 +164,7 @@ unfolding list nothingWanted bitsSent torn readsOf twoCircuits tornCalls tornBit
     circuitsOf anyOf wrongLength addressFF wrongExtension alike twoAlike circuitsRefusal listRefusal listed noCircuit recordOf listing
     longest header headed segment packets linkOf control extensionOf packetOf systemPacket
     sendStoreLength freshSendSlot freshSender sendSlotAt pending sendSlotInRange sendSlotsInRange sendInRange
-    offerRefusal offeredSender offeredStore senderAfterOffer storeAfterOffer enabled goingRound orElse
+    offerRefusal offeredSlot offeredSender offeredStore senderAfterOffer storeAfterOffer enabled goingRound orElse
     waitsAt firstWaiting pickFrom pick messageAt packetAt nextPacket advanced served copiesWaiting full andThen nextFrame placing fill copiesIn waiting fillUp
     framesBits flaggedFrames blockOf systemPackets enableBits inForce ruled blockFilled wrongSize shortBuffer wrongSystem blockRefusal senderAfterBlock
     freshQueue freshQueues queueAt copyOf copiesFrom messageCopies messageFor offered offerQueues

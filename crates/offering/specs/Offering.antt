@@ -5,8 +5,9 @@ use mathlib.Core.List.{List}
 use lib.ListN.{length, set}
 use lib.Seq.{sets}
 use lib.Dec.{ltb, eqb}
-use Rattle.packet.specs.Messages.{longest}
+use Rattle.packet.specs.Messages.{longest, packets}
 use Rattle.packet.specs.Stores.{region}
+use Rattle.offering.specs.declared.Slot.{Slot}
 use Rattle.offering.specs.declared.Sender.{Sender}
 use Rattle.offering.specs.Record.{storeLength, slotAt, pending, inRange}
 
@@ -21,21 +22,25 @@ offerRefusal s store c priority repetition message =
     (cond (ltb longest (length message)) 9
     (cond (pending (slotAt s c)) 10 0))))))
 
--- the record after an accepted offer: all copies of all packets wait
+-- a circuit's slot with a message: all copies of all its packets wait, so that all its packets are still to go
+unfoldable pub offeredSlot : Slot → ℕ → ℕ → List ℕ → Slot
+offeredSlot t priority repetition message =
+    record {
+      index = t .index;
+      priority = priority;
+      repetition = repetition;
+      copy = 0;
+      length = length message;
+      place = 0;
+      left = packets (length message);
+    }
+
+-- the record after an accepted offer
 unfoldable pub offeredSender : Sender → ℕ → ℕ → ℕ → List ℕ → Sender
 offeredSender s c priority repetition message =
     record {
       circuits = s .circuits;
-      slots =
-          set (s .slots) c
-          (record {
-            index = slotAt s c .index;
-            priority = priority;
-            repetition = repetition;
-            copy = 0;
-            length = length message;
-            place = 0;
-          });
+      slots = set (s .slots) c (offeredSlot (slotAt s c) priority repetition message);
       last = s .last;
       enable = s .enable;
     }

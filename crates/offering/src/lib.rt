@@ -22,6 +22,7 @@ pub struct Slot {
     pub copy: u8,
     pub length: u16,
     pub place: u16,
+    pub left: u16,
 }
 
 // A sender's record.
@@ -61,6 +62,7 @@ impl Sender {
             copy: 0,
             length: 0,
             place: 1,
+            left: 0,
         };
         Sender {
             circuits,
@@ -129,6 +131,7 @@ impl Sender {
         let circuits = self.circuits;
         let mut slots = self.slots;
         let t = slots[circuit];
+        let packets = packet::packets(message.len()) as u16;
         slots[circuit] = Slot {
             index: t.index,
             priority,
@@ -136,6 +139,7 @@ impl Sender {
             copy: 0,
             length: message.len() as u16,
             place: 0,
+            left: packets,
         };
         Sender {
             circuits,

@@ -1,8 +1,7 @@
 // A slot has a copy to place or none, and slots and records are in range or not.
 ghost use mathlib.Core.Path.{_≡_};
 ghost use Prim.Native.Nat.{_≤_};
-ghost use lib.ListN.{take};
-ghost use Rattle.offering.specs.Record.{pending, slotInRange, slotsInRange, inRange};
+ghost use Rattle.offering.specs.Record.{pending, slotInRange, slotsInRange, inRange, PendingIffLeft};
 use super::Sender;
 use super::Slot;
 
@@ -30,16 +29,21 @@ fn slot_in_range(t: Slot) -> bool
     if packet::LONGEST_MESSAGE < length {
         return false;
     }
-    if packet::packets(length) < t.place as usize {
+    let packets = packet::packets(length);
+    let place = t.place as usize;
+    if packets < place {
         return false;
     }
-    t.copy <= t.repetition
+    if t.repetition < t.copy {
+        return false;
+    }
+    t.left as usize == packets - place
 }
 
-// The first slots are in range.
+// The first `count` slots are in range.
 fn slots_in_range(slots: [Slot; 4], count: usize) -> bool
     requires { ⌜ count ≤ 4 ⌝ }
-    ensures { λ r. ⌜ r ≡ slotsInRange (take count slots) ⌝ }
+    ensures { λ r. ⌜ r ≡ slotsInRange count slots ⌝ }
 {
     let mut i = 0;
     while i < count {
@@ -51,6 +55,11 @@ fn slots_in_range(slots: [Slot; 4], count: usize) -> bool
     }
     true
 }
+
+// In range a message is pending exactly if packets are left.
+fn pending_iff_left()
+    ensures { λ r. ⌜ PendingIffLeft ⌝ }
+{}
 
 impl Sender {
     // The record is in range.

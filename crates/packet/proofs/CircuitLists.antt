@@ -253,7 +253,7 @@ listRefusal-length bs e =
     omega (arith, length-circuitsOf bs, wrongLength-false (length bs) (listRefusal-zero bs e .0))
 
 -- the circuits of the record of at most four circuits are these
-listed-recordOf : (cs : List Circuit) → length cs ≤ 4 → listed (recordOf cs) ≡ cs
+pub listed-recordOf : (cs : List Circuit) → length cs ≤ 4 → listed (recordOf cs) ≡ cs
 unfolding listed recordOf
 listed-recordOf cs h = rw (take-take (length cs) 4 (cs ++ replicate 4 noCircuit) h) (take-append-seam cs (replicate 4 noCircuit))
 
@@ -280,7 +280,8 @@ listing-refused bs e = rw (ne-eqb (listRefusal bs) 0 e)
 pub listed-listing : (bs : List ℕ) → listRefusal bs ≡ 0 → listed (listing bs) ≡ circuitsOf bs
 listed-listing bs e = rw (listing-accepted bs e) (listed-recordOf (circuitsOf bs) (listRefusal-length bs e .1))
 
-listing-either : (P : Circuits → Type 0) (bs : List ℕ) → (listRefusal bs ≡ 0 → P (recordOf (circuitsOf bs))) → P (recordOf []) → P (listing bs)
+-- what holds of the record of an accepted list, and of that of no circuits
+pub listing-either : (P : Circuits → Type 0) (bs : List ℕ) → (listRefusal bs ≡ 0 → P (recordOf (circuitsOf bs))) → P (recordOf []) → P (listing bs)
 listing-either P bs accepted refused = go (eqb (listRefusal bs) 0) refl
   where
     go : (t : Bool) → eqb (listRefusal bs) 0 ≡ t → P (listing bs)

@@ -1,8 +1,16 @@
--- Lists all of whose elements are so.
+-- Lists all of whose elements are so, or pass a test.
 use Prim.Native.Nat.{ℕ, zero, suc}
 use mathlib.Core.List.{List, [], _∷_, _++_}
 use lib.ListN.{take, set, replicate}
-use Rattle.packet.specs.Lists.{AllAre}
+use mathlib.Core.Bool.{Bool}
+use mathlib.Core.Path.{refl}
+use Rattle.bits.proofs.Each.{Each}
+use Rattle.packet.specs.Lists.{allOf, AllAre}
+
+-- the laws of a test of each element
+pub each-allOf : {A : Type 0} (test : A → Bool) → Each test (allOf test)
+unfolding allOf
+each-allOf test = record { none = refl; more = λ x xs. refl }
 
 module _ {A : Type 0} (P : A → Type 0) where
   pub AllAre-append : (a b : List A) → AllAre P a → AllAre P b → AllAre P (a ++ b)

@@ -8,6 +8,7 @@ use packet::Answer;
 use printing::print;
 use printing::print_bytes;
 use printing::print_number;
+use printing::print_numbers;
 use printing::print_right;
 use receiver::Read;
 use receiver::Receiver;
@@ -137,14 +138,17 @@ fn make(sender: Sender, store: &[u8], block: &mut [u8], number: usize) -> Making
     make_block(sender, store, block, BITS, USABLE, false, 0, 0, b"")
 }
 
-fn print_block(number: usize, made: Made) {
+fn print_block(number: usize, made: Made, sender: Sender) {
     let Made::Block { placed, used } = made else {
         return;
     };
     tell(b"  block ", number);
     tell(b": ", placed);
     tell(b" frames in ", used);
-    print(b" bits\n");
+    print(b" bits, left");
+    let t = sender.slots;
+    print_numbers(&[t[0].left, t[1].left, t[2].left, t[3].left]);
+    print(b"\n");
 }
 
 // All blocks, each at its place in the joined bits, and messages offered before each.
@@ -159,8 +163,8 @@ fn send(store: &mut [u8], taken: &mut [usize; 4], joined: &mut [u8])
         let start = 150 * number;
         let making = make(s, store, &mut joined[start..], number);
         let made = making.made;
-        print_block(number, made);
         s = making.sender;
+        print_block(number, made, s);
         number += 1;
     }
 }

@@ -7,8 +7,7 @@ use native.Mathlib.Omega.{arith}
 use mathlib.Core.Bool.{Bool, true, false, cond, _&&_}
 use mathlib.Core.List.{List, [], _∷_}
 use mathlib.Core.Option.{Option, none, some}
-use lib.ListN.{length, take, drop, length-set}
-use lib.Seq.{take-set-lt}
+use lib.ListN.{length, drop, length-set}
 use lib.Dec.{ltb, eqb}
 use borrow.Author.Tests.{ltb-true, ltb-false, eqb-true, lt-ltb, le-ltb}
 use Rattle.packet.specs.Messages.{packets}
@@ -164,6 +163,7 @@ copied t =
       copy = t .copy + 1;
       length = t .length;
       place = t .place;
+      left = t .left;
     }
 
 abbrev pub movedOn : Slot → Slot
@@ -175,6 +175,7 @@ movedOn t =
       copy = 0;
       length = t .length;
       place = t .place + 1;
+      left = t .left - 1;
     }
 
 pub advanced-copied : (t : Slot) → t .copy < t .repetition → advanced t ≡ copied t
@@ -226,9 +227,7 @@ served-in-range s enable c e p =
       circuits = f .circuits;
       last = omega arith;
       enable = f .enable;
-      slots =
-          rw (take-set-lt (s .circuits .count) (s .slots) c (advanced (slotAt s c)) (g .count))
-          (slotsInRange-set (take (s .circuits .count) (s .slots)) c (advanced (slotAt s c)) (f .slots) t);
+      slots = slotsInRange-set (s .circuits .count) (s .slots) c (advanced (slotAt s c)) (f .slots) t;
     })
 
 pub length-served : (s : Sender) (c : ℕ) → length (served s c .slots) ≡ length (s .slots)

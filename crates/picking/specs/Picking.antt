@@ -44,7 +44,7 @@ unfoldable pub pick : Sender → ℕ → Option ℕ
 pick s enable = pickFrom s enable (3 ∷ 2 ∷ 1 ∷ 0 ∷ [])
 
 -- a copy placed: "Repetition 0 to 5 gives that many copies after the original .. before the circuit's next packet"; the index counts
--- packets modulo 8
+-- packets modulo 8; a packet is left while "some copy is still to place" (document 02, ask 5)
 unfoldable pub advanced : Slot → Slot
 advanced t =
     cond (ltb (t .copy) (t .repetition))
@@ -55,6 +55,7 @@ advanced t =
       copy = t .copy + 1;
       length = t .length;
       place = t .place;
+      left = t .left;
     })
     (record {
       index = (t .index + 1) % 8;
@@ -63,6 +64,7 @@ advanced t =
       copy = 0;
       length = t .length;
       place = t .place + 1;
+      left = t .left - 1;
     })
 
 -- the record after a copy of circuit c is placed

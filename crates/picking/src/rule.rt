@@ -80,6 +80,7 @@ fn advance(t: Slot) -> Slot
     next.index = std::num::wrapping_add_u8(t.index, 1) % 8;
     next.copy = 0;
     next.place = t.place + 1;
+    next.left = t.left - 1;
     next
 }
 

@@ -66,3 +66,16 @@ pub fn print_bytes(bytes: &[u8]) -> usize
     }
     2 * i
 }
+
+// Numbers in decimal digits, a space before each, and how many there are.
+pub fn print_numbers(numbers: &[u16]) -> usize
+    ensures { λ r. ⌜ r ≡ length (now (numbers .entry)) ⌝ }
+{
+    let mut k = 0;
+    while k < numbers.len() {
+        print(b" ");
+        print_number(numbers[k] as usize);
+        k += 1;
+    }
+    k
+}

@@ -1,10 +1,11 @@
 -- The queues at work: two circuits, a message at each, the second in two copies and of the higher priority, and a block of 256 bits. The copies
--- of the higher priority come first, and all of them have room. Then the same messages in blocks whose enable bits hold over.
+-- of the higher priority come first, and all of them have room. Then the same messages in blocks whose enable bits hold over, and blocks that
+-- have room for a copy and for the rest, with the packets still to go.
 use Prim.Native.Nat.{ℕ}
 use mathlib.Core.Bool.{true, false, xor}
 use mathlib.Core.List.{List, [], _∷_, map}
 use mathlib.Core.Path.{_≡_, refl, ap, _∙_}
-use lib.ListN.{take, replicate}
+use lib.ListN.{length, take, replicate}
 use Rattle.bits.specs.Bits.{odd, lowBits, byteBits, bitsOf}
 use Rattle.fcs.specs.Fcs.{poly, divided, fcsBit, fcsRun, preset, complement, fcsOf, lowFirst}
 use Rattle.hdlc.specs.Stuffing.{stuffFrom, stuff}
@@ -12,18 +13,18 @@ use Rattle.hdlc.specs.Frames.{flag, withFcs, frame}
 use Rattle.packet.specs.Circuits.{circuitsOf, wrongLength, addressFF, wrongExtension, alike, twoAlike, circuitsRefusal, listRefusal, listed, noCircuit, recordOf, listing}
 use Rattle.packet.specs.Messages.{longest, header, headed, segment, packets, linkOf}
 use Rattle.packet.specs.Packets.{control, extensionOf, packetOf, systemPacket}
-use Rattle.packet.specs.Lists.{anyOf}
+use Rattle.packet.specs.Lists.{anyOf, those}
 use Rattle.packet.specs.Stores.{region}
 use Rattle.offering.specs.Record.{storeLength, freshSlot, fresh, slotAt, pending, messageAt, slotInRange, slotsInRange, inRange}
-use Rattle.offering.specs.Offering.{offerRefusal, offeredSender, offeredStore, senderAfterOffer, storeAfterOffer}
+use Rattle.offering.specs.Offering.{offerRefusal, offeredSlot, offeredSender, offeredStore, senderAfterOffer, storeAfterOffer}
 use Rattle.picking.specs.Picking.{enabled, waitsAt, goingRound, firstWaiting, orElse, pickFrom, pick, advanced, served, copiesWaiting}
 use Rattle.writing.specs.PacketParts.{packetAt}
 use Rattle.writing.specs.NextFrame.{nextPacket, nextFrame}
 use Rattle.sender.specs.Blocks.{framesBits, flaggedFrames, full, andThen, placing, fill, copiesIn, waiting, fillUp, System, systemPackets, enableBits, inForce, ruled, blockFilled, wrongSize, shortBuffer, wrongSystem, blockRefusal, senderAfterBlock}
 use Rattle.queues.specs.Queues.{freshQueue, freshQueues, queueAt, copyOf, copiesFrom, messageCopies, messageFor, offered, offerQueues, frontHas, firstQueue, pickQueueFrom, pickQueue, behindFirst, behind, serveQueues, ruledQueues, Placed, takenNone, andTaken, takingFirst, taking, takeUpTo, copiesInQueues, takeFrames}
 use Rattle.queues.specs.Effects.{takenFor, TakenBlock, packetsTaken, bitsOfBlock, queuesAfterEffect, takenBy, queuesAfter, blocksTaken}
-use Rattle.queues.specs.Calls.{Call, offer, block, freshEnd, accepted, afterCall, afterCalls, effect, effectOf, effects, blocksMade}
-use Rattle.queues.specs.Sent.{framesOf}
+use Rattle.queues.specs.Calls.{Call, offer, block, freshEnd, accepted, afterCall, afterCalls, effect, effectOf, effects, queuesAfterCalls, blocksMade}
+use Rattle.queues.specs.Sent.{eachOnce, framesOf}
 use Rattle.queues.specs.EnableBits.{enableAsked, enablesSent, lastOr, enableAfter, packetsPlaced}
 use Rattle.queues.proofs.BlocksAreQueues.{blocks-are-queues}
 
@@ -60,7 +61,7 @@ unfolding list nothingWanted calls first second expected
     circuitsOf anyOf wrongLength addressFF wrongExtension alike twoAlike circuitsRefusal listRefusal listed noCircuit recordOf listing
     longest header headed segment packets linkOf control extensionOf packetOf
     region storeLength freshSlot fresh slotAt pending slotInRange slotsInRange inRange
-    offerRefusal offeredSender offeredStore senderAfterOffer storeAfterOffer enabled goingRound orElse
+    offerRefusal offeredSlot offeredSender offeredStore senderAfterOffer storeAfterOffer enabled goingRound orElse
     framesBits flaggedFrames systemPackets enableBits inForce wrongSize shortBuffer wrongSystem blockRefusal
     freshQueue freshQueues queueAt copyOf copiesFrom messageCopies messageFor offered offerQueues
     frontHas firstQueue pickQueueFrom pickQueue behindFirst behind serveQueues ruledQueues
@@ -110,7 +111,7 @@ unfolding list notWanting wanting heldCalls heldBlocks first second
     circuitsOf anyOf wrongLength addressFF wrongExtension alike twoAlike circuitsRefusal listRefusal listed noCircuit recordOf listing
     longest header headed segment packets linkOf control extensionOf packetOf systemPacket
     region storeLength freshSlot fresh slotAt pending messageAt slotInRange slotsInRange inRange
-    offerRefusal offeredSender offeredStore senderAfterOffer storeAfterOffer enabled goingRound orElse
+    offerRefusal offeredSlot offeredSender offeredStore senderAfterOffer storeAfterOffer enabled goingRound orElse
     waitsAt firstWaiting pickFrom pick advanced served copiesWaiting packetAt nextPacket nextFrame
     framesBits flaggedFrames full andThen placing fill copiesIn waiting fillUp systemPackets enableBits inForce ruled blockFilled
     wrongSize shortBuffer wrongSystem blockRefusal senderAfterBlock
@@ -120,3 +121,41 @@ unfolding list notWanting wanting heldCalls heldBlocks first second
     takenFor queuesAfterEffect takenBy blocksTaken accepted afterCall effect effectOf effects
     packetsTaken queuesAfter afterCalls framesOf enableAsked enablesSent lastOr enableAfter packetsPlaced
 held-example = (refl, refl, refl)
+
+-- a message of one packet, and one of two packets in two copies each; a block has room for one of the first packet's copies, and the last one for all
+-- that still wait
+leftCalls : List Call
+leftCalls =
+    offer 0 1 0 (0xff ∷ []) ∷
+    offer 1 2 1 (replicate 16 0) ∷
+    block 256 256 (replicate 32 0) nothingWanted ∷
+    block 256 256 (replicate 32 0) nothingWanted ∷
+    block 256 256 (replicate 32 0) nothingWanted ∷
+    []
+
+-- the packets still to go at numbers 0, 1 and 2, the last of which is not listed, after the first n calls
+leftAfter : ℕ → List ℕ
+leftAfter n =
+    let q = queuesAfterCalls list (replicate 16384 0) (take n leftCalls) in
+    length (eachOnce (queueAt q 0 .copies)) ∷ length (eachOnce (queueAt q 1 .copies)) ∷ length (eachOnce (queueAt q 2 .copies)) ∷ []
+
+left-example : (leftAfter 0 ≡ 0 ∷ 0 ∷ 0 ∷ [])
+    × (leftAfter 1 ≡ 1 ∷ 0 ∷ 0 ∷ [])
+    × (leftAfter 2 ≡ 1 ∷ 2 ∷ 0 ∷ [])
+    × (leftAfter 3 ≡ 1 ∷ 2 ∷ 0 ∷ [])
+    × (leftAfter 4 ≡ 1 ∷ 1 ∷ 0 ∷ [])
+    × (leftAfter 5 ≡ 0 ∷ 0 ∷ 0 ∷ [])
+unfolding list nothingWanted leftCalls leftAfter
+    odd lowBits byteBits bitsOf xor poly divided fcsBit fcsRun preset complement fcsOf lowFirst stuffFrom stuff flag withFcs frame
+    circuitsOf anyOf wrongLength addressFF wrongExtension alike twoAlike circuitsRefusal listRefusal listed noCircuit recordOf listing
+    longest header headed segment packets linkOf control extensionOf packetOf
+    region storeLength freshSlot fresh slotAt pending messageAt slotInRange slotsInRange inRange
+    offerRefusal offeredSlot offeredSender offeredStore senderAfterOffer storeAfterOffer enabled goingRound orElse
+    waitsAt firstWaiting pickFrom pick advanced served copiesWaiting packetAt nextPacket nextFrame
+    framesBits flaggedFrames full andThen placing fill copiesIn waiting fillUp systemPackets enableBits inForce ruled blockFilled
+    wrongSize shortBuffer wrongSystem blockRefusal senderAfterBlock
+    freshQueue freshQueues queueAt copyOf copiesFrom messageCopies messageFor offered offerQueues
+    frontHas firstQueue pickQueueFrom pickQueue behindFirst behind serveQueues ruledQueues
+    takenNone andTaken takingFirst taking takeUpTo copiesInQueues takeFrames
+    takenFor queuesAfterEffect accepted afterCall effect effectOf effects queuesAfter queuesAfterCalls those eachOnce
+left-example = (refl, refl, refl, refl, refl, refl)

@@ -11,4 +11,5 @@ pub mod FirstInFirstOut
 pub mod IndexCounts
 pub mod EnableInForce
 pub mod PlacedEnabled
+pub mod LeftCounts
 pub mod Example

@@ -16,6 +16,7 @@ use Rattle.packet.specs.Messages.{packets, linkOf, segment}
 use Rattle.packet.specs.Packets.{packetOf}
 use Rattle.offering.specs.declared.Slot.{Slot}
 use Rattle.offering.specs.Record.{pending, slotInRange}
+use Rattle.offering.specs.Offering.{offeredSlot}
 use Rattle.picking.specs.Picking.{advanced, copiesWaiting}
 use Rattle.picking.proofs.PickingLaws.{SlotPending, slotPending}
 use Rattle.queues.specs.Queues.{Copy, Queue, copyOf, copiesFrom, messageCopies, messageFor, offered, someWaits, frontHas, behindFirst, behind}
@@ -52,23 +53,23 @@ length-copiesFrom k priority text times number i (suc n) =
 
 module _ (k : Circuit) (t : Slot) (text : List ℕ) (q : Queue) (h : StandsFor k t text q) where
   -- the copies of the packets from i on, the first with number d
-  left : ℕ → ℕ → List Copy
-  left d i = copiesFrom k (t .priority) text (suc (t .repetition)) d i (packets (t .length) - i)
+  onward : ℕ → ℕ → List Copy
+  onward d i = copiesFrom k (t .priority) text (suc (t .repetition)) d i (packets (t .length) - i)
 
   -- the first copy that waits, where one does
   firstCopy : Copy
   firstCopy = copyOf k (t .priority) text (h .done) (t .place)
 
   -- the copies of the packet that is next, and those behind them
-  left-suc : SlotPending t → left (h .done) (t .place) ≡ replicate (suc (t .repetition)) firstCopy ++ left (suc (h .done)) (suc (t .place))
-  unfolding left firstCopy
-  left-suc p = copiesFrom-suc k (t .priority) text (suc (t .repetition)) (h .done) (t .place) (packets (t .length)) (p .pending)
+  onward-suc : SlotPending t → onward (h .done) (t .place) ≡ replicate (suc (t .repetition)) firstCopy ++ onward (suc (h .done)) (suc (t .place))
+  unfolding onward firstCopy
+  onward-suc p = copiesFrom-suc k (t .priority) text (suc (t .repetition)) (h .done) (t .place) (packets (t .length)) (p .pending)
 
-  copies-pending : SlotPending t → q .copies ≡ firstCopy ∷ drop (suc (t .copy)) (left (h .done) (t .place))
-  unfolding left
+  copies-pending : SlotPending t → q .copies ≡ firstCopy ∷ drop (suc (t .copy)) (onward (h .done) (t .place))
+  unfolding onward
   copies-pending p =
       h .copies
-      ∙ rw (left-suc p) (drop-alike (t .copy) (t .repetition) firstCopy (left (suc (h .done)) (suc (t .place))) (p .inRange .copy))
+      ∙ rw (onward-suc p) (drop-alike (t .copy) (t .repetition) firstCopy (onward (suc (h .done)) (suc (t .place))) (p .inRange .copy))
 
   -- the first copy is the packet that the slot tells
   pub StandsFor-first : SlotPending t
@@ -81,7 +82,7 @@ module _ (k : Circuit) (t : Slot) (text : List ℕ) (q : Queue) (h : StandsFor k
       ∷ behindFirst (q .copies)
   unfolding firstCopy copyOf
   StandsFor-first p =
-      cons-behindFirst (q .copies) firstCopy (drop (suc (t .copy)) (left (h .done) (t .place))) (copies-pending p)
+      cons-behindFirst (q .copies) firstCopy (drop (suc (t .copy)) (onward (h .done) (t .place))) (copies-pending p)
       ∙ ap₂ (λ n i. told n i ∷ behindFirst (q .copies)) (h .message) (sym (h .index))
     where
       told : ℕ → ℕ → Copy
@@ -122,10 +123,8 @@ module _ (k : Circuit) (t : Slot) (text : List ℕ) (q : Queue) (h : StandsFor k
 
   -- an offer where nothing waits: the slot stands for the queue with the message's copies
   pub StandsFor-offered : pending t ≡ false → (priority repetition : ℕ) (message : List ℕ)
-      → StandsFor k
-      (record { index = t .index; priority = priority; repetition = repetition; copy = 0; length = length message; place = 0 })
-      message (offered q priority repetition message)
-  unfolding offered messageFor messageCopies pending
+      → StandsFor k (offeredSlot t priority repetition message) message (offered q priority repetition message)
+  unfolding offeredSlot offered messageFor messageCopies pending
   StandsFor-offered e priority repetition message =
       let none : packets (t .length) - t .place ≡ 0 = omega (arith, ltb-false (t .place) (packets (t .length)) e) in
       record {
@@ -139,11 +138,11 @@ module _ (k : Circuit) (t : Slot) (text : List ℕ) (q : Queue) (h : StandsFor k
 
   -- the slot advanced stands for the queue without its first copy
   pub StandsFor-advanced : SlotPending t → StandsFor k (advanced t) text (behind q)
-  unfolding advanced left behind
+  unfolding advanced onward behind
   StandsFor-advanced p = go (ltb (t .copy) (t .repetition)) refl
     where
-      rest : behindFirst (q .copies) ≡ drop (suc (t .copy)) (left (h .done) (t .place))
-      rest = behindFirst-cons (q .copies) firstCopy (drop (suc (t .copy)) (left (h .done) (t .place))) (copies-pending p)
+      rest : behindFirst (q .copies) ≡ drop (suc (t .copy)) (onward (h .done) (t .place))
+      rest = behindFirst-cons (q .copies) firstCopy (drop (suc (t .copy)) (onward (h .done) (t .place))) (copies-pending p)
 
       go : (b : Bool) → ltb (t .copy) (t .repetition) ≡ b → StandsFor k (advanced t) text (behind q)
       go true e =
@@ -154,7 +153,7 @@ module _ (k : Circuit) (t : Slot) (text : List ℕ) (q : Queue) (h : StandsFor k
             message = h .message;
             index = h .index;
             sent = h .sent;
-            copies = rest ∙ ap (λ n. drop n (left (h .done) (t .place))) (sym (add-one (t .copy)));
+            copies = rest ∙ ap (λ n. drop n (onward (h .done) (t .place))) (sym (add-one (t .copy)));
           })
       go false e =
           let all : t .copy ≡ t .repetition = omega (arith, ltb-false (t .copy) (t .repetition) e, p .inRange .copy) in
@@ -167,7 +166,7 @@ module _ (k : Circuit) (t : Slot) (text : List ℕ) (q : Queue) (h : StandsFor k
             sent = omega (arith, h .sent, p .pending);
             copies =
                 rest
-                ∙ ap (drop (suc (t .copy))) (left-suc p)
-                ∙ drop-all-alike (t .copy) (t .repetition) firstCopy (left (suc (h .done)) (suc (t .place))) all
-                ∙ ap (left (suc (h .done))) (sym (add-one (t .place)));
+                ∙ ap (drop (suc (t .copy))) (onward-suc p)
+                ∙ drop-all-alike (t .copy) (t .repetition) firstCopy (onward (suc (h .done)) (suc (t .place))) all
+                ∙ ap (onward (suc (h .done))) (sym (add-one (t .place)));
           })

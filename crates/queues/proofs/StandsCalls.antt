@@ -3,18 +3,18 @@ use Prim.Native.Nat.{ℕ, zero, suc, _*_, _≤_, _<_}
 use native.Mathlib.Omega.{arith}
 use mathlib.Core.Bool.{Bool, true, false, cond}
 use mathlib.Core.List.{List, [], _∷_, _++_, map}
-use mathlib.Core.Path.{_≡_, refl}
+use mathlib.Core.Path.{_≡_, refl, ap, _∙_}
 use lib.ListN.{length, take, drop, getD, replicate, length-append, length-take, length-map, getD-replicate, List·getD-append, List·getD-map}
-use lib.Seq.{getD-take, take-take, take-append-seam}
+use lib.Seq.{getD-take}
 use lib.Dec.{eqb}
-use borrow.Author.Tests.{eqb-true, eqb-false}
+use borrow.Author.Tests.{eqb-true}
 use Rattle.packet.specs.declared.Circuit.{Circuit}
 use Rattle.packet.specs.Circuits.{circuitsOf, circuitsRefusal, twoAlike, listRefusal, listed, noCircuit, recordOf, listing}
 use Rattle.packet.specs.Messages.{longest, header, packets}
 use Rattle.packet.specs.Lists.{anyOf}
 use Rattle.packet.specs.Stores.{region}
 use Rattle.packet.proofs.Choices.{cond-either}
-use Rattle.packet.proofs.CircuitLists.{listing-accepted, listing-refused, listed-listing, listing-refusal, listRefusal-length}
+use Rattle.packet.proofs.CircuitLists.{listed-recordOf, listed-listing, listing-either, listing-refusal, listRefusal-length}
 use Rattle.offering.specs.declared.Sender.{Sender}
 use Rattle.offering.specs.Record.{freshSlot, fresh, noSlot, slotAt, messageAt, slotInRange, slotsInRange, inRange}
 use Rattle.offering.specs.Offering.{offerRefusal, offeredSender, offeredStore, senderAfterOffer, storeAfterOffer}
@@ -24,18 +24,18 @@ use Rattle.sender.specs.Blocks.{System, systemPackets, enableBits, blockFilled,
 use Rattle.sender.proofs.InForce.{inForce-at-most-15}
 use Rattle.queues.specs.Queues.{Queues, freshQueue, freshQueues, queueAt, copiesFrom}
 use Rattle.queues.specs.Effects.{Effect, noEffect, sendsMessage, takesFrames, queuesAfterEffect, queuesAfter}
-use Rattle.queues.specs.Calls.{Call, offer, block, End, freshEnd, accepted, afterCall, afterCalls, effect, effectOf, effects}
+use Rattle.queues.specs.Calls.{Call, offer, block, End, freshEnd, accepted, afterCall, afterCalls, effect, effectOf, effects, queuesAfterCalls}
 use Rattle.queues.specs.Stands.{StandsFor, Stands}
 use Rattle.queues.proofs.StandsOffer.{stands-offer}
 use Rattle.queues.proofs.StandsBlock.{stands-block}
 
 -- ---- a fresh sender
 
-slotsInRange-fresh : (n k : ℕ) → slotsInRange (take n (replicate k freshSlot)) ≡ true
+slotsInRange-fresh : (n k : ℕ) → n ≤ k → slotsInRange n (replicate k freshSlot) ≡ true
 unfolding slotsInRange slotInRange freshSlot packets header longest
-slotsInRange-fresh zero k = refl
-slotsInRange-fresh (suc n) zero = refl
-slotsInRange-fresh (suc n) (suc k) = slotsInRange-fresh n k
+slotsInRange-fresh zero k h = refl
+slotsInRange-fresh (suc n) zero h = absurd (omega arith)
+slotsInRange-fresh (suc n) (suc k) h = slotsInRange-fresh n k (omega arith)
 
 StandsFor-fresh : (k : Circuit) (lent : List ℕ) → StandsFor k freshSlot (take (freshSlot .length) lent) (freshQueue k)
 unfolding freshSlot freshQueue packets header copiesFrom
@@ -43,15 +43,15 @@ StandsFor-fresh k lent = record { done = 0; circuit = refl; message = refl; inde
 
 module _ (cs : List Circuit) (few : length cs ≤ 4) (right : circuitsRefusal cs ≡ 0) (store : List ℕ) where
   fresh-in-range : inRange (fresh (recordOf cs)) ≡ true
-  unfolding fresh recordOf listed
+  unfolding fresh recordOf
   fresh-in-range =
       facts-inRange (fresh (recordOf cs))
       (record {
         count = few;
-        circuits = rw (take-take (length cs) 4 (cs ++ replicate 4 noCircuit) few, take-append-seam cs (replicate 4 noCircuit)) right;
+        circuits = ap circuitsRefusal (listed-recordOf cs few) ∙ right;
         last = omega arith;
         enable = omega arith;
-        slots = slotsInRange-fresh (length cs) 4;
+        slots = slotsInRange-fresh (length cs) 4 few;
       })
 
   Stands-fresh : Stands (fresh (recordOf cs)) store (freshQueues cs)
@@ -81,16 +81,20 @@ module _ (cs : List Circuit) (few : length cs ≤ 4) (right : circuitsRefusal cs
           )
           (StandsFor-fresh (getD cs c noCircuit) (drop (region * c) store))
 
--- the record that an accepted listing returned, and any first store
-pub stands-fresh : (bytes store : List ℕ) → listRefusal bytes ≡ 0 → Stands (fresh (listing bytes)) store (freshQueues (circuitsOf bytes))
-stands-fresh bytes store e =
-    let right : circuitsRefusal (circuitsOf bytes) ≡ 0 = rw (listed-listing bytes e) at (listing-refusal bytes) in
-    rw (listing-accepted bytes e) (Stands-fresh (circuitsOf bytes) (listRefusal-length bytes e .1) right store)
-
--- the record of no circuits, which a refused one returned
-stands-refused : (bytes store : List ℕ) → (listRefusal bytes ≡ 0 → ⊥) → Stands (fresh (listing bytes)) store (freshQueues [])
+-- the record that a listing returned, and any first store
+stands-listing : (bytes store : List ℕ) → Stands (fresh (listing bytes)) store (freshQueues (listed (listing bytes)))
 unfolding circuitsRefusal anyOf twoAlike
-stands-refused bytes store e = rw (listing-refused bytes e) (Stands-fresh [] (omega arith) refl store)
+stands-listing bytes store =
+    listing-either (λ cs. Stands (fresh cs) store (freshQueues (listed cs))) bytes
+    (λ e.
+    let few = listRefusal-length bytes e .1 in
+    let right : circuitsRefusal (circuitsOf bytes) ≡ 0 = rw (listed-listing bytes e) at (listing-refusal bytes) in
+    rw (listed-recordOf (circuitsOf bytes) few) (Stands-fresh (circuitsOf bytes) few right store))
+    (rw (listed-recordOf [] (omega arith)) (Stands-fresh [] (omega arith) refl store))
+
+-- an accepted one has the circuits of its list
+pub stands-fresh : (bytes store : List ℕ) → listRefusal bytes ≡ 0 → Stands (fresh (listing bytes)) store (freshQueues (circuitsOf bytes))
+stands-fresh bytes store e = rw (listed-listing bytes e) at (stands-listing bytes store)
 
 -- ---- calls
 
@@ -129,22 +133,22 @@ Stands-afterCalls [] e q h = h
 Stands-afterCalls (call ∷ calls) e q h =
     Stands-afterCalls calls (afterCall e call) (queuesAfterEffect q (effectOf e call)) (stands-call call e q h)
 
--- whatever the calls, record and store stand for the queues
+-- whatever was listed and called, record and store stand for the queues
+pub stands-queues : (bytes store : List ℕ) (calls : List Call)
+    → Stands (afterCalls (freshEnd bytes store) calls .sender) (afterCalls (freshEnd bytes store) calls .store) (queuesAfterCalls bytes store calls)
+unfolding queuesAfterCalls
+stands-queues bytes store calls =
+    Stands-afterCalls calls (freshEnd bytes store) (freshQueues (listed (listing bytes))) (stands-listing bytes store)
+
 pub stands-calls : (bytes store : List ℕ) (calls : List Call) → listRefusal bytes ≡ 0
     → Stands (afterCalls (freshEnd bytes store) calls .sender) (afterCalls (freshEnd bytes store) calls .store)
     (queuesAfter (freshQueues (circuitsOf bytes)) (effects (freshEnd bytes store) calls))
-stands-calls bytes store calls e =
-    Stands-afterCalls calls (freshEnd bytes store) (freshQueues (circuitsOf bytes)) (stands-fresh bytes store e)
+unfolding queuesAfterCalls
+stands-calls bytes store calls e = rw (listed-listing bytes e) at (stands-queues bytes store calls)
 
 -- "14 a record out of range ..., which no record made by calls is"
 pub never-14 : (bytes store : List ℕ) (calls : List Call) → inRange (afterCalls (freshEnd bytes store) calls .sender) ≡ true
-never-14 bytes store calls = go (eqb (listRefusal bytes) 0) refl
-  where
-    go : (b : Bool) → eqb (listRefusal bytes) 0 ≡ b → inRange (afterCalls (freshEnd bytes store) calls .sender) ≡ true
-    go true e = stands-calls bytes store calls (eqb-true (listRefusal bytes) 0 e) .range
-    go false e =
-        Stands-afterCalls calls (freshEnd bytes store) (freshQueues [])
-        (stands-refused bytes store (eqb-false (listRefusal bytes) 0 e)) .range
+never-14 bytes store calls = stands-queues bytes store calls .range
 
 -- ---- what the effects of calls keep to
 

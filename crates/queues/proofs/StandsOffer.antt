@@ -6,7 +6,7 @@ use mathlib.Core.Bool.{Bool, true, false}
 use mathlib.Core.List.{List, _++_, append-assoc}
 use mathlib.Core.Path.{_≡_, refl, ap}
 use lib.ListN.{length, take, drop, getD}
-use lib.Seq.{sets, sets-eq, take-set-lt, take-append-seam, drop-at, length-take-le}
+use lib.Seq.{sets, sets-eq, take-append-seam, drop-at, length-take-le}
 use lib.Dec.{ltb}
 use borrow.Author.Tests.{ltb-true, ltb-false}
 use Rattle.bits.proofs.Lists.{drop-sets-before, take-sets-behind, drop-sets-add}
@@ -16,7 +16,7 @@ use Rattle.packet.specs.Stores.{region}
 use Rattle.offering.specs.declared.Slot.{Slot}
 use Rattle.offering.specs.declared.Sender.{Sender}
 use Rattle.offering.specs.Record.{slotAt, messageAt, inRange, slotInRange}
-use Rattle.offering.specs.Offering.{offerRefusal, offeredSender, offeredStore}
+use Rattle.offering.specs.Offering.{offerRefusal, offeredSlot, offeredSender, offeredStore}
 use Rattle.offering.proofs.Ranges.{slotInRange-facts, facts-slotInRange, inRange-facts, facts-inRange, slotsInRange-set, slotInRange-slotAt}
 use Rattle.offering.proofs.Offers.{OfferFacts, offerRefusal-zero}
 use Rattle.queues.specs.Queues.{Queues, queueAt, offered, offerQueues}
@@ -58,10 +58,10 @@ module _ (s : Sender) (store : List ℕ) (q : Queues) (h : Stands s store q) (c 
   a = offerRefusal-zero s store c priority repetition message e
 
   newSlot : Slot
-  newSlot = record { index = slotAt s c .index; priority = priority; repetition = repetition; copy = 0; length = length message; place = 0 }
+  newSlot = offeredSlot (slotAt s c) priority repetition message
 
   newSlot-in-range : slotInRange newSlot ≡ true
-  unfolding newSlot
+  unfolding newSlot offeredSlot
   newSlot-in-range =
       facts-slotInRange newSlot
       (record {
@@ -71,6 +71,7 @@ module _ (s : Sender) (store : List ℕ) (q : Queues) (h : Stands s store q) (c 
         short = a .message;
         place = omega arith;
         copy = omega arith;
+        left = omega arith;
       })
 
   offered-in-range : inRange (offeredSender s c priority repetition message) ≡ true
@@ -83,14 +84,12 @@ module _ (s : Sender) (store : List ℕ) (q : Queues) (h : Stands s store q) (c 
         circuits = f .circuits;
         last = f .last;
         enable = f .enable;
-        slots =
-            rw (take-set-lt (s .circuits .count) (s .slots) c newSlot (a .circuit))
-            (slotsInRange-set (take (s .circuits .count) (s .slots)) c newSlot (f .slots) newSlot-in-range);
+        slots = slotsInRange-set (s .circuits .count) (s .slots) c newSlot (f .slots) newSlot-in-range;
       })
 
   pub stands-offer : Stands (offeredSender s c priority repetition message) (offeredStore store c message)
       (offerQueues q c priority repetition message)
-  unfolding offeredSender offerQueues newSlot messageAt
+  unfolding offeredSender offeredSlot offerQueues newSlot messageAt
   stands-offer =
       let four : c < 4 = omega (arith, a .circuit, inRange-facts s (h .range) .count) in
       Stands-set s store q h (offeredStore store c message) c newSlot (offered (queueAt q c) priority repetition message)

@@ -6,12 +6,13 @@ use mathlib.Core.List.{List, [], _∷_, _++_}
 use lib.ListN.{take}
 use lib.Dec.{eqb}
 use Rattle.bits.specs.Bits.{bitsOf}
-use Rattle.packet.specs.Circuits.{listing}
+use Rattle.packet.specs.Circuits.{listed, listing}
 use Rattle.offering.specs.declared.Sender.{Sender}
 use Rattle.offering.specs.Record.{fresh}
 use Rattle.offering.specs.Offering.{offerRefusal, senderAfterOffer, storeAfterOffer}
 use Rattle.sender.specs.Blocks.{System, systemPackets, enableBits, blockRefusal, senderAfterBlock, bufferAfterBlock}
-use Rattle.queues.specs.Effects.{Effect, noEffect, sendsMessage, takesFrames}
+use Rattle.queues.specs.Queues.{Queues, freshQueues}
+use Rattle.queues.specs.Effects.{Effect, noEffect, sendsMessage, takesFrames, queuesAfter}
 
 -- a call: an offer of a message at a circuit number, or a block of N bits, of which U may be used, into a buffer
 pub data Call : Type 0 where
@@ -58,6 +59,10 @@ effectOf e call = cond (accepted e call) (effect call) noEffect
 unfoldable pub effects : End → List Call → List Effect
 effects e [] = []
 effects e (call ∷ calls) = effectOf e call ∷ effects (afterCall e call) calls
+
+-- the queues after calls of a fresh sender, one for each circuit that its listing returned
+unfoldable pub queuesAfterCalls : List ℕ → List ℕ → List Call → Queues
+queuesAfterCalls bytes store calls = queuesAfter (freshQueues (listed (listing bytes))) (effects (freshEnd bytes store) calls)
 
 -- "Each accepted block call gives the N bits of its block, as it leaves them": in the buffer that it was lent
 unfoldable pub made : End → Call → List (List Bool)

@@ -1,8 +1,9 @@
--- The definitions of `queues`: queues of waiting copies, what calls do to them, lists of calls, for which queues record and store stand, and the enable
--- bits in force.
+-- The definitions of `queues`: queues of waiting copies, what calls do to them, lists of calls, for which queues record and store stand, the enable
+-- bits in force, and the packets still to go.
 pub mod Queues
 pub mod Effects
 pub mod Calls
 pub mod Stands
 pub mod Sent
 pub mod EnableBits
+pub mod PacketsLeft

@@ -1,9 +1,10 @@
 -- What is sent and placed at a circuit, and what counting its packets means (document 01, "Messages and packets" and "What demand 3 counts").
 use Prim.Native.Nat.{ℕ, suc, _%_}
-use mathlib.Core.Bool.{cond}
+use mathlib.Core.Bool.{cond, not}
 use mathlib.Core.List.{List, [], _∷_, _++_}
 use mathlib.Core.Path.{_≡_}
 use lib.ListN.{replicate}
+use lib.Dec.{eqb}
 use Rattle.packet.specs.declared.Circuit.{Circuit}
 use Rattle.packet.specs.Circuits.{alike}
 use Rattle.packet.specs.Lists.{those}
@@ -24,6 +25,11 @@ copiesSent (m ∷ ms) = messageCopies m ++ copiesSent ms
 unfoldable pub placedAt : Circuit → List Placed → List Copy
 placedAt k [] = []
 placedAt k (p ∷ ps) = cond (alike k (p .circuit)) (p .copy ∷ []) [] ++ placedAt k ps
+
+-- the numbers of the packets of copies, each once, in the order of the copies
+unfoldable pub eachOnce : List Copy → List ℕ
+eachOnce [] = []
+eachOnce (c ∷ cs) = c .number ∷ those (λ i. not (eqb i (c .number))) (eachOnce cs)
 
 -- the frames of blocks, joined in order
 unfoldable pub framesOf : List TakenBlock → List Placed

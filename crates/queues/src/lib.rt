@@ -1,6 +1,7 @@
-// What the sender's calls mean, as queues of waiting copies: no code, only definitions, theorems, and two functions that carry those of document 02,
-// ask 4.
+// What the sender's calls mean, as queues of waiting copies: no code, only definitions, theorems, and four functions that carry those of document 02,
+// asks 4 and 5.
 ghost use Rattle.queues.specs.EnableBits.{EnableInForce, PlacedEnabled};
+ghost use Rattle.queues.specs.PacketsLeft.{LeftCounts, LeftStands};
 
 // The enable bits in force are those of the last system packet sent.
 fn enable_in_force()
@@ -10,4 +11,14 @@ fn enable_in_force()
 // Each frame placed has a priority that the enable bits in force in its block enable.
 fn placed_enabled()
     ensures { λ r. ⌜ PlacedEnabled ⌝ }
+{}
+
+// The packets still to go, in the record, are those of which copies wait in the queue.
+fn left_counts()
+    ensures { λ r. ⌜ LeftCounts ⌝ }
+{}
+
+// So they are in every record that stands for queues.
+fn left_stands()
+    ensures { λ r. ⌜ LeftStands ⌝ }
 {}

@@ -9,7 +9,7 @@ use Rattle.layout.specs.Layout.{lowBytes, circuitBytes, circuitsBytes}
 use Rattle.sender_layout.specs.SenderBytes as senders
 
 emptySlot : List ℕ
-emptySlot = 0 ∷ 0 ∷ 0 ∷ 0 ∷ 0 ∷ 0 ∷ 1 ∷ 0 ∷ []
+emptySlot = 0 ∷ 0 ∷ 0 ∷ 0 ∷ 0 ∷ 0 ∷ 1 ∷ 0 ∷ 0 ∷ 0 ∷ []
 
 sender-empty : senders.senderBytes (sender.fresh (recordOf [])) ≡ replicate 13 0 ++ emptySlot ++ emptySlot ++ emptySlot ++ emptySlot ++ 3 ∷ 15 ∷ []
 unfolding emptySlot senders.senderBytes senders.slotsBytes senders.slotBytes sender.fresh sender.freshSlot lowBytes circuitsBytes circuitBytes recordOf noCircuit

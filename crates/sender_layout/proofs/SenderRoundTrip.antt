@@ -1,4 +1,4 @@
--- A sender's record and its 47 bytes determine each other: every record's bytes are unpacked to it, and all bytes are some record's.
+-- A sender's record and its 55 bytes determine each other: every record's bytes are unpacked to it, and all bytes are some record's.
 use mathlib.Core.Path.{_≡_, refl}
 use Prim.Native.Nat.{ℕ, _+_, _≤_}
 use native.Mathlib.Omega.{arith}
@@ -19,17 +19,18 @@ use Rattle.layout.proofs.Parts.{byte-fits, number-fits, number-unpacks, number-
 
 slot-unpacks : (t : Slot) → SenderSlotFits t → slotIn (slotBytes t) 0 ≡ t
 unfolding slotIn slotBytes lowBytes numberAt byteAt
-slot-unpacks t fits = rw (number-unpacks 2 (t .length) (fits .lengthFits) [], number-unpacks 2 (t .place) (fits .place) [])
+slot-unpacks t fits =
+    simp (number-unpacks 2 (t .length) (fits .lengthFits) [], number-unpacks 2 (t .place) (fits .place) [], number-unpacks 2 (t .left) (fits .left) []) refl
 
-pub length-slotBytes : (t : Slot) → length (slotBytes t) ≡ 8
+pub length-slotBytes : (t : Slot) → length (slotBytes t) ≡ 10
 unfolding slotBytes lowBytes
 length-slotBytes t = refl
 
 slots-unpack : (ts : List Slot) → Four SenderSlotFits ts
-    → slotIn (slotsBytes ts) 0 ∷ slotIn (slotsBytes ts) 8 ∷ slotIn (slotsBytes ts) 16 ∷ slotIn (slotsBytes ts) 24 ∷ [] ≡ ts
+    → slotIn (slotsBytes ts) 0 ∷ slotIn (slotsBytes ts) 10 ∷ slotIn (slotsBytes ts) 20 ∷ slotIn (slotsBytes ts) 30 ∷ [] ≡ ts
 unfolding slotIn slotsBytes slotBytes lowBytes numberAt byteAt
 slots-unpack =
-    four-elements (λ ts. slotIn (slotsBytes ts) 0 ∷ slotIn (slotsBytes ts) 8 ∷ slotIn (slotsBytes ts) 16 ∷ slotIn (slotsBytes ts) 24 ∷ [] ≡ ts)
+    four-elements (λ ts. slotIn (slotsBytes ts) 0 ∷ slotIn (slotsBytes ts) 10 ∷ slotIn (slotsBytes ts) 20 ∷ slotIn (slotsBytes ts) 30 ∷ [] ≡ ts)
     (λ a b c d fa fb fc fd i. slot-unpacks a fa i ∷ slot-unpacks b fb i ∷ slot-unpacks c fc i ∷ slot-unpacks d fd i ∷ [])
 
 pub sender-unpacks : (s : Sender) → SenderFits s → (rest : List ℕ) → senderIn (senderBytes s ++ rest) ≡ s
@@ -54,9 +55,9 @@ unfolding senderIn slotIn AllAre
 sender-fits bytes are =
     record {
       circuits = circuits-fit bytes are;
-      slots = record { four = refl; each = (slot 13, (slot 21, (slot 29, (slot 37, tt)))) };
-      last = byte-fits bytes are 45;
-      enable = byte-fits bytes are 46;
+      slots = record { four = refl; each = (slot 13, (slot 23, (slot 33, (slot 43, tt)))) };
+      last = byte-fits bytes are 53;
+      enable = byte-fits bytes are 54;
     }
   where
     slot : (at : ℕ) → SenderSlotFits (slotIn bytes at)
@@ -68,4 +69,5 @@ sender-fits bytes are =
           copy = byte-fits bytes are (at + 3);
           lengthFits = number-fits 2 bytes are (at + 4);
           place = number-fits 2 bytes are (at + 6);
+          left = number-fits 2 bytes are (at + 8);
         }

@@ -11,6 +11,7 @@ pub record SenderSlotFits (t : Slot) : Type 0 where
   pub copy : t .copy < 256
   pub lengthFits : t .length < 65536
   pub place : t .place < 65536
+  pub left : t .left < 65536
 
 pub record SenderFits (s : Sender) : Type 0 where
   pub circuits : CircuitsFit (s .circuits)

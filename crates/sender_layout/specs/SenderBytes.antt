@@ -1,4 +1,4 @@
--- A sender's record in 47 bytes: its circuits, four slots of 8, the circuit last served, and the enable bits in force. Every 47 bytes are some
+-- A sender's record in 55 bytes: its circuits, four slots of 10, the circuit last served, and the enable bits in force. Every 55 bytes are some
 -- record's.
 use Prim.Native.Nat.{ℕ, _+_}
 use mathlib.Core.List.{List, [], _∷_, _++_}
@@ -9,11 +9,11 @@ use Rattle.offering.specs.Record.{noSlot}
 use Rattle.layout.specs.Layout.{lowBytes, byteAt, numberAt, circuitsBytes, circuitsIn}
 
 abbrev pub senderLength : ℕ
-senderLength = 47
+senderLength = 55
 
--- a slot, 8 bytes: index, priority, repetition, copy, length, place
+-- a slot, 10 bytes: index, priority, repetition, copy, length, place, left
 unfoldable pub slotBytes : Slot → List ℕ
-slotBytes t = t .index ∷ t .priority ∷ t .repetition ∷ t .copy ∷ lowBytes 2 (t .length) ++ lowBytes 2 (t .place)
+slotBytes t = t .index ∷ t .priority ∷ t .repetition ∷ t .copy ∷ lowBytes 2 (t .length) ++ lowBytes 2 (t .place) ++ lowBytes 2 (t .left)
 
 unfoldable pub slotIn : List ℕ → ℕ → Slot
 slotIn bytes at =
@@ -24,6 +24,7 @@ slotIn bytes at =
       copy = byteAt bytes (at + 3);
       length = numberAt 2 bytes (at + 4);
       place = numberAt 2 bytes (at + 6);
+      left = numberAt 2 bytes (at + 8);
     }
 
 unfoldable pub slotsBytes : List Slot → List ℕ
@@ -37,7 +38,7 @@ unfoldable pub senderIn : List ℕ → Sender
 senderIn bytes =
     record {
       circuits = circuitsIn bytes;
-      slots = slotIn bytes 13 ∷ slotIn bytes 21 ∷ slotIn bytes 29 ∷ slotIn bytes 37 ∷ [];
-      last = byteAt bytes 45;
-      enable = byteAt bytes 46;
+      slots = slotIn bytes 13 ∷ slotIn bytes 23 ∷ slotIn bytes 33 ∷ slotIn bytes 43 ∷ [];
+      last = byteAt bytes 53;
+      enable = byteAt bytes 54;
     }

@@ -14,13 +14,13 @@ use offering::Sender;
 use offering::Slot;
 
 // The lengths of a sender's record and of a block's answer.
-pub const LENGTH: usize = 47;
+pub const LENGTH: usize = 55;
 
 pub const ANSWER: usize = 8;
 
-// The slot in eight bytes.
+// The slot in ten bytes.
 fn slot_in(bytes: &[u8], at: usize) -> Slot
-    requires { ⌜ at + 8 ≤ length (now bytes) ⌝ }
+    requires { ⌜ at + 10 ≤ length (now bytes) ⌝ }
     ensures { λ r. ⌜ r ≡ slotIn (now (bytes .entry)) at ⌝ }
 {
     Slot {
@@ -30,6 +30,7 @@ fn slot_in(bytes: &[u8], at: usize) -> Slot
         copy: bytes[at + 3],
         length: word_at(bytes, at + 4),
         place: word_at(bytes, at + 6),
+        left: word_at(bytes, at + 8),
     }
 }
 
@@ -40,23 +41,24 @@ pub fn sender_in(bytes: &[u8]) -> Sender
 {
     let circuits = circuits_in(bytes);
     let first = slot_in(bytes, 13);
-    let second = slot_in(bytes, 21);
-    let third = slot_in(bytes, 29);
-    let fourth = slot_in(bytes, 37);
+    let second = slot_in(bytes, 23);
+    let third = slot_in(bytes, 33);
+    let fourth = slot_in(bytes, 43);
     Sender {
         circuits,
         slots: [first, second, third, fourth],
-        last: bytes[45],
-        enable: bytes[46],
+        last: bytes[53],
+        enable: bytes[54],
     }
 }
 
 // A slot's bytes.
-fn slot_bytes(t: Slot) -> [u8; 8]
+fn slot_bytes(t: Slot) -> [u8; 10]
     ensures { λ r. ⌜ r ≡ slotBytes t ⌝ }
 {
     let length = t.length as usize;
     let place = t.place as usize;
+    let left = t.left as usize;
     [
         t.index,
         t.priority,
@@ -66,12 +68,14 @@ fn slot_bytes(t: Slot) -> [u8; 8]
         low_byte(length / 256),
         low_byte(place),
         low_byte(place / 256),
+        low_byte(left),
+        low_byte(left / 256),
     ]
 }
 
 // A slot's bytes go to byte `at` and those behind it.
 fn put_slot(bytes: &mut [u8], at: usize, t: Slot)
-    requires { ⌜ at + 8 ≤ length (now bytes) ⌝ }
+    requires { ⌜ at + 10 ≤ length (now bytes) ⌝ }
     ensures { λ r. ⌜ now (bytes .exit) ≡ sets (now (bytes .entry)) at (slotBytes t) ⌝ }
 {
     let slot = slot_bytes(t);
@@ -84,9 +88,9 @@ fn put_slots(bytes: &mut [u8], slots: [Slot; 4])
     ensures { λ r. ⌜ now (bytes .exit) ≡ sets (now (bytes .entry)) 13 (slotsBytes slots) ⌝ }
 {
     put_slot(bytes, 13, slots[0]);
-    put_slot(bytes, 21, slots[1]);
-    put_slot(bytes, 29, slots[2]);
-    put_slot(bytes, 37, slots[3]);
+    put_slot(bytes, 23, slots[1]);
+    put_slot(bytes, 33, slots[2]);
+    put_slot(bytes, 43, slots[3]);
 }
 
 // The record's bytes go to the start of the bytes lent.
@@ -100,7 +104,7 @@ pub fn put_sender(bytes: &mut [u8], sender: Sender)
     let end = [sender.last, sender.enable];
     bits::copy_in(bytes, &front);
     put_slots(bytes, slots);
-    bits::copy_at(bytes, 45, &end);
+    bits::copy_at(bytes, 53, &end);
 }
 
 // A block's answer goes to the start of the bytes lent: the frames placed and the bits used.

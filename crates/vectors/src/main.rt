@@ -12,6 +12,7 @@ use printing::print;
 use printing::print_bytes;
 use printing::print_hex;
 use printing::print_number;
+use printing::print_numbers;
 use sender::Made;
 use sender::blocks::make_block;
 ghost use mathlib.Core.Path.{_≡_};
@@ -127,7 +128,14 @@ fn print_refusal(number: u8) {
     print(b"\n");
 }
 
-// An offer, and its answer.
+// The packets still to go at each circuit number.
+fn print_left(sender: Sender) {
+    let t = sender.slots;
+    print(b" left");
+    print_numbers(&[t[0].left, t[1].left, t[2].left, t[3].left]);
+}
+
+// An offer, its answer, and what is left then.
 fn offer(
     sender: Sender,
     store: &mut [u8],
@@ -138,16 +146,19 @@ fn offer(
 ) -> Sender {
     let offered = sender.offer(store, circuit, priority, repetition, message);
     let answer = offered.answer;
+    let after = offered.sender;
     match answer {
         Answer::Accepted => {
-            print(b"accepted\n");
+            print(b"accepted,");
+            print_left(after);
+            print(b"\n");
         }
         Answer::Refused(number) => print_refusal(number),
     }
-    offered.sender
+    after
 }
 
-// A block call into 80 bytes AA hex, its answer, and the bytes then.
+// A block call into 80 bytes AA hex, its answer, what is left, and the bytes then.
 fn block(
     sender: Sender,
     store: &[u8],
@@ -171,19 +182,21 @@ fn block(
         information,
     );
     let made = making.made;
+    let after = making.sender;
     match made {
         Made::Block { placed, used } => {
             print(b"placed ");
             print_number(placed);
             print(b" used ");
             print_number(used);
+            print_left(after);
             print(b" ");
             print_bytes(&buffer);
             print(b"\n");
         }
         Made::Refused(number) => print_refusal(number),
     }
-    making.sender
+    after
 }
 
 // A plain block, with no system packet.

@@ -5,7 +5,7 @@ use aes18::{ffi, Circuit, Refusal, Sender, SystemPacket, SENDER_RECORD, SENDER_S
 use super::frames::plain;
 
 /// Where the record has them.
-const ENABLE: usize = 46;
+const ENABLE: usize = 54;
 /// Bits of a block with room for a system packet and a short packet of every circuit, and its bytes.
 const N: u64 = 512;
 const BYTES: usize = 64;
@@ -218,7 +218,7 @@ fn no_circuits() -> [u8; SENDER_RECORD] {
 
 #[test]
 fn a_refused_listing_has_all_enabled() {
-    let slot = [0, 0, 0, 0, 0, 0, 1, 0];
+    let slot = [0, 0, 0, 0, 0, 0, 1, 0, 0, 0];
     let record = [&[0; 13][..], &slot.repeat(4), &[3, 15]].concat();
     assert_eq!(no_circuits()[..], record);
 }

@@ -59,19 +59,3 @@ fn bits_may_be_cut_anywhere() {
         assert_eq!(read(&circuits, &bits, step), told, "{step} bits at a time");
     }
 }
-
-#[test]
-fn packets_that_wait() {
-    let mut store = [0; SENDER_STORE];
-    let mut sender = Sender::list(&[plain(0x01)]).unwrap();
-    for (length, packets) in [(0, 1), (15, 1), (16, 2), (30, 2), (31, 3), (4094, 256)] {
-        let message = vec![0x55; length];
-        sender.offer(&mut store, 0, 0, 1, &message).unwrap();
-        assert_eq!(sender.waiting(0), packets, "length {length}");
-        let mut bits = [0; 3375];
-        while sender.waiting(0) > 0 {
-            let placed = sender.block(&store, 27_000, 27_000, None, &mut bits);
-            assert!(placed.unwrap().placed > 0);
-        }
-    }
-}

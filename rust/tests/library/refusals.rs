@@ -213,17 +213,6 @@ fn records_go_through_bytes() {
 }
 
 #[test]
-fn nothing_waits_outside_the_list_or_the_range() {
-    assert_eq!(sender().waiting(2), 0);
-    for byte in [0x00, 0x04, 0xFF] {
-        let sender = Sender::from_bytes([byte; SENDER_RECORD]);
-        for circuit in [0, 3, 4, usize::MAX] {
-            assert_eq!(sender.waiting(circuit), 0);
-        }
-    }
-}
-
-#[test]
 fn words_and_numbers() {
     let words = [
         (Refusal::ListLength, "refusal 1: length not 3, 6, 9 or 12"),

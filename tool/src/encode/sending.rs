@@ -1,11 +1,14 @@
 //! A plan's calls of the sender.
 
+use std::array;
+
 use aes18::{Block, Refusal, Sender, SystemPacket, SENDER_STORE};
 
 use super::plan::{Action, Offer, Plan, System};
 use crate::circuits::MOST_CIRCUITS;
 use crate::enable::EnableBits;
 use crate::error::Error;
+use crate::output::count;
 
 /// Bytes of the longest block, 27,000 bits.
 const LONGEST_BLOCK: usize = 3375;
@@ -17,6 +20,8 @@ pub struct Made<'a> {
     pub block: Block,
     /// The enable bits in force, which rule it.
     pub enable: EnableBits,
+    /// The packets still to go behind it, by the circuit's number.
+    pub left: [u64; MOST_CIRCUITS],
     /// Its bytes, spare bits of the last 0.
     pub bytes: &'a [u8],
 }
@@ -51,6 +56,7 @@ pub fn send(
                     n: *n,
                     block,
                     enable: sending.enable(),
+                    left: array::from_fn(|circuit| sending.left(circuit)),
                     bytes: &bytes[..n.div_ceil(8) as usize],
                 })?;
             }
@@ -87,13 +93,17 @@ impl Sending {
         Ok(())
     }
 
-    /// The words of an offer's refusal; where an earlier message is held back, they say why.
+    /// The words of an offer's refusal; of an earlier message they say how many of its packets are still to go and, where it is held back, why.
     fn refused(&self, refusal: Refusal, circuit: usize) -> String {
-        let why = self.held_back(circuit);
-        match why.filter(|_| refusal == Refusal::MessagePending) {
-            Some(why) => format!("{refusal}; its {why}"),
-            None => refusal.to_string(),
+        if refusal != Refusal::MessagePending {
+            return refusal.to_string();
         }
+        let left = count(self.left(circuit), "packet");
+        let why = match self.held_back(circuit) {
+            Some(why) => format!("; its {why}"),
+            None => String::new(),
+        };
+        format!("{refusal}, {left} of it still to go{why}")
     }
 
     /// The enable bits in force.
@@ -101,12 +111,12 @@ impl Sending {
         EnableBits(self.sender.enable() as u8)
     }
 
-    /// How many packets wait at the circuit of that number.
-    pub fn waiting(&self, circuit: usize) -> u64 {
+    /// How many packets are still to go at the circuit of that number: those of which some copy is still to place.
+    pub fn left(&self, circuit: usize) -> u64 {
         self.sender.waiting(circuit) as u64
     }
 
-    /// Why what waits at the circuit of that number is held back, in words; none where its priority is enabled.
+    /// Why what is still to go at the circuit of that number is held back, in words; none where its priority is enabled.
     pub fn held_back(&self, circuit: usize) -> Option<String> {
         let priority = self.priorities.get(circuit)?;
         let enabled = self.enable().enables(*priority);

@@ -14,14 +14,16 @@ pub struct Summary {
 }
 
 impl Summary {
-    /// Notes a block; blocks are numbered from 0. Where not all priorities are enabled, its line says which are.
+    /// Notes a block; blocks are numbered from 0. Where not all priorities are enabled, its line says which are; packets still to go
+    /// come last.
     pub fn block(&mut self, plan: &Plan, made: &Made<'_>) {
         let enable = match made.enable {
             EnableBits::ALL => String::new(),
             bits => format!(", enable bits in force {bits}"),
         };
+        let left = still_to_go(plan, made);
         self.lines += &format!(
-            "{}:{}: block {}: {} placed, {} of {} bits used{enable}\n",
+            "{}:{}: block {}: {} placed, {} of {} bits used{enable}{left}\n",
             plan.name,
             made.line,
             self.blocks,
@@ -39,18 +41,31 @@ impl Summary {
         let enable = sending.enable();
         self.lines += &format!("{blocks}, {bits}; enable bits in force {enable}");
         for (number, circuit) in plan.circuits.iter().enumerate() {
-            let packets = sending.waiting(number);
-            if packets > 0 {
+            let left = sending.left(number);
+            if left > 0 {
                 let why = match sending.held_back(number) {
                     Some(why) => format!(": {why}"),
-                    None => " for a later block".to_string(),
+                    None => " in a later block".to_string(),
                 };
                 self.lines += &format!(
-                    "\n{WARNING}circuit {number} ({circuit}): {} waiting{why}",
-                    count(packets, "packet")
+                    "\n{WARNING}circuit {number} ({circuit}): {} still to go{why}",
+                    count(left, "packet")
                 );
             }
         }
         self.lines
     }
+}
+
+/// The end of a block's line: how many packets are still to go at each circuit where some are.
+fn still_to_go(plan: &Plan, made: &Made<'_>) -> String {
+    let circuits = plan.circuits.iter().zip(made.left);
+    let left: Vec<String> = circuits
+        .filter(|(_, left)| *left > 0)
+        .map(|(circuit, left)| format!("{left} at {circuit}"))
+        .collect();
+    if left.is_empty() {
+        return String::new();
+    }
+    format!(", packets still to go: {}", left.join(", "))
 }

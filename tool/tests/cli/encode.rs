@@ -22,11 +22,11 @@ const BLOCKS: [&str; 3] = [
     "7edf8b07030406a469fcfeffffffffffffffffffffffffffffffffffffffffffffffffffffffffffffffffffffffffffffffffffffffffffffffffffffffffffffffffffffffffffffffff1f",
 ];
 const SUMMARY: &str = "\
-plan:8: block 0: 3 frames placed, 584 of 600 bits used
-plan:9: block 1: 4 frames placed, 430 of 600 bits used
-plan:10: block 2: 0 frames placed, 81 of 605 bits used, enable bits in force 5 (priorities 0 and 2)
+plan:8: block 0: 3 frames placed, 584 of 600 bits used, packets still to go: 1 at 01, 3 at 02:07, 1 at 7E
+plan:9: block 1: 4 frames placed, 430 of 600 bits used, packets still to go: 3 at 02:07
+plan:10: block 2: 0 frames placed, 81 of 605 bits used, enable bits in force 5 (priorities 0 and 2), packets still to go: 3 at 02:07
 3 blocks, 1805 bits; enable bits in force 5 (priorities 0 and 2)
-aes18: warning: circuit 1 (02:07): 3 packets waiting: priority 1 is not enabled until another system packet enables it
+aes18: warning: circuit 1 (02:07): 3 packets still to go: priority 1 is not enabled until another system packet enables it
 ";
 
 fn hex(bytes: &[u8]) -> String {
@@ -83,9 +83,9 @@ fn enable_bits_hold_over() {
     folder.write("without", format!("circuits 01 02\n{others}"));
     let ran = folder.run(&["encode", "plan", "-o", "bits"]);
     let summary = "\
-plan:4: block 0: 1 frame placed, 186 of 304 bits used, enable bits in force 7 (priorities 0, 1 and 2)
-plan:6: block 1: 1 frame placed, 136 of 304 bits used, enable bits in force 7 (priorities 0, 1 and 2)
-plan:7: block 2: 0 frames placed, 8 of 304 bits used, enable bits in force 7 (priorities 0, 1 and 2)
+plan:4: block 0: 1 frame placed, 186 of 304 bits used, enable bits in force 7 (priorities 0, 1 and 2), packets still to go: 1 at 01
+plan:6: block 1: 1 frame placed, 136 of 304 bits used, enable bits in force 7 (priorities 0, 1 and 2), packets still to go: 1 at 01
+plan:7: block 2: 0 frames placed, 8 of 304 bits used, enable bits in force 7 (priorities 0, 1 and 2), packets still to go: 1 at 01
 plan:8: block 3: 1 frame placed, 180 of 304 bits used
 4 blocks, 1216 bits; enable bits in force 15 (all priorities)
 ";
@@ -116,11 +116,11 @@ fn messages_held_back_at_the_end() {
     folder.write("plan", plan);
     folder.write("longer", format!("{plan}{later}"));
     let held = |circuit, packets, priority| {
-        format!("aes18: warning: circuit {circuit}: {packets} waiting: priority {priority} is not enabled until another system packet enables it\n")
+        format!("aes18: warning: circuit {circuit}: {packets} still to go: priority {priority} is not enabled until another system packet enables it\n")
     };
     let others = held("0 (01)", "1 packet", 3) + &held("1 (02)", "1 packet", 1);
     let ran = folder.run(&["encode", "plan", "-o", "bits"]);
-    let room = "aes18: warning: circuit 2 (03:07): 2 packets waiting for a later block\n";
+    let room = "aes18: warning: circuit 2 (03:07): 2 packets still to go in a later block\n";
     let sums = "\n1 block, 304 bits; enable bits in force 1 (priority 0)\n";
     assert_eq!(ran.status, 0);
     assert!(
@@ -131,7 +131,7 @@ fn messages_held_back_at_the_end() {
     let ran = folder.run(&["encode", "longer", "-o", "bits"]);
     let last = held("2 (03:07)", "2 packets", 0);
     let sums = "\
-longer:7: block 2: 0 frames placed, 8 of 27000 bits used, enable bits in force 0 (no priority)
+longer:7: block 2: 0 frames placed, 8 of 27000 bits used, enable bits in force 0 (no priority), packets still to go: 1 at 01, 1 at 02, 2 at 03:07
 3 blocks, 27608 bits; enable bits in force 0 (no priority)
 ";
     assert_eq!(ran.status, 0);
@@ -285,7 +285,7 @@ fn blocks_that_are_badly_written() {
 #[test]
 fn refused_calls() {
     let system_address = "expected an address from 00 to FE, not FF: FF is that of system packets";
-    let pending = "refusal 10: an earlier message there still has a copy to place";
+    let pending = "refusal 10: an earlier message there still has a copy to place, 1 packet of it still to go";
     let bits = "refusal 11: N outside 256 to 27,000 or U outside 256 to N";
     let system = "refusal 13: enable bits above 15, code above 8 or information above 15 bytes";
     try_wrong(
@@ -331,7 +331,7 @@ fn refused_calls() {
 /// An offer behind a message that is held back is refused with the reason, and no other is.
 #[test]
 fn offers_behind_a_message_held_back() {
-    let pending = "refusal 10: an earlier message there still has a copy to place";
+    let pending = "refusal 10: an earlier message there still has a copy to place, 1 packet of it still to go";
     let held = "priority 3 is not enabled until another system packet enables it";
     let offer = "circuits 1 2\noffer 0 3 0 -\nblock 256 256 system 7 0\nblock 256 256\n";
     let again = |number, priority| format!("{offer}offer {number} {priority} 0 -\n");

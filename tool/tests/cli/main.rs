@@ -8,6 +8,7 @@ mod encode;
 #[path = "../../../rust/tests/library/frames.rs"]
 mod frames;
 mod gaps;
+mod left;
 mod line;
 mod long;
 mod runs;

@@ -60,6 +60,10 @@ fn what_the_helps_say() {
             "They rule this block and all later ones until another system packet;",
         ),
         (
+            "encode",
+            "A packet is still to go until its last copy is placed.",
+        ),
+        (
             "decode",
             "in its block and all later ones until another system packet,",
         ),

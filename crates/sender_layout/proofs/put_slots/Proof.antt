@@ -37,7 +37,7 @@ same-length c = search needs
 returns : tie.Need-returns
 unfolding slotsBytes noSlot
 returns c =
-    four-written slotBytes 8 length-slotBytes _ 13 _ _ _ _
+    four-written slotBytes 10 length-slotBytes _ 13 _ _ _ _
     (c .before .before .before .before .before .before .before .before .before .before .before .before .before .before .before .before .before .put-slot .ensures)
     (c .before .before .before .before .before .before .before .before .before .before .before .before .put-slot2 .ensures)
     (c .before .before .before .before .before .before .before .put-slot3 .ensures)

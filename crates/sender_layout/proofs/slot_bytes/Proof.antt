@@ -11,6 +11,9 @@ cast-length c = search needs
 cast-place : tie.Need-cast-place
 cast-place c = search needs
 
+cast-left : tie.Need-cast-left
+cast-left c = search needs
+
 low-byte-requires : tie.Need-low-byte-requires
 low-byte-requires c κs = search needs
 
@@ -23,14 +26,22 @@ low-byte-requires-3 c κs = search needs
 low-byte-requires-4 : tie.Need-low-byte-requires-4
 low-byte-requires-4 c κs = search needs
 
+low-byte-requires-5 : tie.Need-low-byte-requires-5
+low-byte-requires-5 c κs = search needs
+
+low-byte-requires-6 : tie.Need-low-byte-requires-6
+low-byte-requires-6 c κs = search needs
+
 returns : tie.Need-returns
 unfolding slotBytes lowBytes
 returns c =
     rw (
-      c .before .before .before .low-byte .ensures,
-      c .before .before .low-byte2 .ensures,
-      c .before .low-byte3 .ensures,
-      c .low-byte4 .ensures,
+      c .before .before .before .before .before .low-byte .ensures,
+      c .before .before .before .before .low-byte2 .ensures,
+      c .before .before .before .low-byte3 .ensures,
+      c .before .before .low-byte4 .ensures,
+      c .before .low-byte5 .ensures,
+      c .low-byte6 .ensures,
     )
 
 pub slot-bytes-spec : {M : Type 1} → statement M
@@ -39,8 +50,11 @@ slot-bytes-spec =
     (tie.spec
     cast-length
     cast-place
+    cast-left
     low-byte-requires
     low-byte-requires-2
     low-byte-requires-3
     low-byte-requires-4
+    low-byte-requires-5
+    low-byte-requires-6
     returns)

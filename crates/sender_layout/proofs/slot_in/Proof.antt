@@ -38,9 +38,15 @@ add-word-at-2 c = search needs
 word-at-requires-2 : tie.Need-word-at-requires-2
 word-at-requires-2 c κs = search needs
 
+add-word-at-3 : tie.Need-add-word-at-3
+add-word-at-3 c = search needs
+
+word-at-requires-3 : tie.Need-word-at-requires-3
+word-at-requires-3 c κs = search needs
+
 returns : tie.Need-returns
 unfolding slotIn byteAt
-returns c = rw (c .before .word-at .ensures, c .word-at2 .ensures)
+returns c = rw (c .before .before .word-at .ensures, c .before .word-at2 .ensures, c .word-at3 .ensures)
 
 pub slot-in-spec : {M : Type 1} → statement M
 slot-in-spec =
@@ -57,4 +63,6 @@ slot-in-spec =
     word-at-requires
     add-word-at-2
     word-at-requires-2
+    add-word-at-3
+    word-at-requires-3
     returns)

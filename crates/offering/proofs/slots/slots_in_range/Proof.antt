@@ -5,13 +5,15 @@ use native.Mathlib.Omega.{arith}
 use lib.ListN.{length, take, drop}
 use borrow.Author.Needs.{needs}
 use Rattle.bits.proofs.Each.{each-out, each-in, each-end}
-use Rattle.offering.specs.Record.{noSlot, slotsInRange}
-use Rattle.offering.proofs.Ranges.{each-slot}
+use Rattle.packet.specs.Lists.{allOf}
+use Rattle.packet.proofs.Lists.{each-allOf}
+use Rattle.offering.specs.Record.{noSlot, slotInRange}
+use Rattle.offering.proofs.Ranges.{slotsInRange-there}
 use Rattle.offering.proofs.slots.slots_in_range.Statement.{statement}
 use Rattle.offering.proofs.slots.slots_in_range.Tie as tie
 
 abbrev Inv-loop : tie.InvT-loop
-Inv-loop count slots i₀ i = (i ≤ count) × (slotsInRange (drop i (take count slots)) ≡ slotsInRange (take count slots))
+Inv-loop count slots i₀ i = (i ≤ count) × (allOf slotInRange (drop i (take count slots)) ≡ allOf slotInRange (take count slots))
 
 abbrev μ-loop : tie.MeasureT-loop
 μ-loop count slots i₀ i = count - i
@@ -37,9 +39,11 @@ fits c =
 returns : tie.Need-returns Inv-loop μ-loop
 unfolding noSlot
 returns c =
-    each-out each-slot noSlot (c .before .before .before .before .before .args .t1) _ _
-    (fits (c .before .before .before .before .before)) (c .before .before .before .before .loop .inv .1) (c .before .before .before .loop-test .taken)
-    _ (c .before .slot-in-range .ensures) (c .if1 .taken)
+    let there = fits (c .before .before .before .before .before) in
+    rw (slotsInRange-there _ _ there)
+    (each-out (each-allOf slotInRange) noSlot (c .before .before .before .before .before .args .t1) _ _
+    there (c .before .before .before .before .loop .inv .1) (c .before .before .before .loop-test .taken)
+    _ (c .before .slot-in-range .ensures) (c .if1 .taken))
 
 add-i : tie.Need-add-i Inv-loop μ-loop
 add-i c = omega arith
@@ -51,13 +55,15 @@ loop-again : tie.Need-loop-again Inv-loop μ-loop
 unfolding noSlot
 loop-again c = (
   omega arith,
-  each-in each-slot noSlot (c .before .before .before .before .before .args .t1) _ _
+  each-in (each-allOf slotInRange) noSlot (c .before .before .before .before .before .args .t1) _ _
       (fits (c .before .before .before .before .before)) (c .before .before .before .before .loop .inv .1) (c .before .before .before .loop-test .taken)
       _ (c .before .slot-in-range .ensures) (c .if1 .left),
 )
 
 returns-2 : tie.Need-returns-2 Inv-loop μ-loop
-returns-2 c = each-end each-slot noSlot _ _ _ (fits (c .before .before)) (c .before .loop .inv .1) (c .loop-test .left)
+returns-2 c =
+    let there = fits (c .before .before) in
+    rw (slotsInRange-there _ _ there) (each-end (each-allOf slotInRange) noSlot _ _ _ there (c .before .loop .inv .1) (c .loop-test .left))
 
 pub slots-in-range-spec : {M : Type 1} → statement M
 slots-in-range-spec =

@@ -12,7 +12,7 @@ add-next : tie.Need-add-next
 add-next c = search needs
 
 returns : tie.Need-returns
-returns c = sym (advanced-copied (c .before .before .before .args .t) (c .before .if1 .taken))
+returns c = sym (advanced-copied _ (search needs))
 
 wrapping-add-u8-requires : tie.Need-wrapping-add-u8-requires
 wrapping-add-u8-requires c κs = search needs
@@ -24,11 +24,18 @@ add-next-2 c =
     let f = slotPending t (p .0) (p .1) in
     omega (arith, packets-most (t .length) (f .inRange .short), f .pending)
 
+sub-next : tie.Need-sub-next
+sub-next c =
+    let t = c .before .before .before .before .before .args .t in
+    let p = c .before .before .before .before .before .pre in
+    let f = slotPending t (p .0) (p .1) in
+    omega (arith, f .inRange .left, f .pending)
+
 returns-2 : tie.Need-returns-2
 returns-2 c =
-    let t = c .before .before .before .before .args .t in
-    let e : c .before .wrapping-add-u8 .result % 8 ≡ (t .index + 1) % 8 = omega (arith, c .before .wrapping-add-u8 .ensures) in
-    rw e (sym (advanced-movedOn t (c .before .before .if1 .left)))
+    let t = c .before .before .before .before .before .args .t in
+    let e : c .before .before .wrapping-add-u8 .result % 8 ≡ (t .index + 1) % 8 = omega (arith, c .before .before .wrapping-add-u8 .ensures) in
+    rw e (sym (advanced-movedOn t (c .before .before .before .if1 .left)))
 
 pub advance-spec : {M : Type 1} → statement M
-advance-spec = tie.close (tie.spec add-next returns wrapping-add-u8-requires add-next-2 returns-2)
+advance-spec = tie.close (tie.spec add-next returns wrapping-add-u8-requires add-next-2 sub-next returns-2)
