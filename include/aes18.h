@@ -237,15 +237,15 @@ uint32_t aes18_sender_block(uint8_t *record, size_t record_len, const uint8_t *s
 
 /*
  * Where a sender's record has what a panel reads: the enable bits in force, and for each circuit number the packets still to go. Those of circuit 0
- * stand at byte AES18_SENDER_LEFT and the next, lowest byte first, and those of each next number AES18_SENDER_CIRCUIT bytes on. So circuit c has
+ * stand at byte AES18_SENDER_LEFT and the next, lowest byte first, and those of each next number AES18_SENDER_CIRCUIT_BYTES bytes on. So circuit c has
  *
- *     record[AES18_SENDER_LEFT + AES18_SENDER_CIRCUIT * c] + 256 * record[AES18_SENDER_LEFT + AES18_SENDER_CIRCUIT * c + 1]
+ *     record[AES18_SENDER_LEFT + AES18_SENDER_CIRCUIT_BYTES * c] + 256 * record[AES18_SENDER_LEFT + AES18_SENDER_CIRCUIT_BYTES * c + 1]
  *
  * packets still to go. This is 0 exactly where nothing is pending, so where no offer is refused by PENDING. An accepted offer sets it to the number of
  * the message's packets, 1 to 256. Copies are not counted: a packet counts until its last copy is placed.
  */
 #define AES18_SENDER_LEFT 21
-#define AES18_SENDER_CIRCUIT 10
+#define AES18_SENDER_CIRCUIT_BYTES 10
 #define AES18_SENDER_ENABLE 54
 
 /*

@@ -1092,9 +1092,9 @@ static void test_pass(uint64_t n)
 /* The packets still to go at a circuit number, as a panel reads them. */
 static uint64_t left(const struct call *c, size_t circuit)
 {
-    const uint8_t *record = c->bytes[RECORD];
+    const uint8_t *bytes = c->bytes[RECORD] + AES18_SENDER_LEFT + AES18_SENDER_CIRCUIT_BYTES * circuit;
 
-    return record[AES18_SENDER_LEFT + AES18_SENDER_CIRCUIT * circuit] + 256u * record[AES18_SENDER_LEFT + AES18_SENDER_CIRCUIT * circuit + 1];
+    return bytes[0] + 256u * bytes[1];
 }
 
 /* Where a packet waits, of messages of no bytes at four circuits: the bit of value 1 << c is set for circuit c. */
@@ -1362,7 +1362,7 @@ static void test_left(size_t circuits)
 /* Sets the packets still to go at a circuit number. */
 static void set_left(struct call *c, size_t circuit, uint64_t value)
 {
-    uint8_t *bytes = c->bytes[RECORD] + AES18_SENDER_LEFT + AES18_SENDER_CIRCUIT * circuit;
+    uint8_t *bytes = c->bytes[RECORD] + AES18_SENDER_LEFT + AES18_SENDER_CIRCUIT_BYTES * circuit;
 
     bytes[0] = (uint8_t)(value & 255);
     bytes[1] = (uint8_t)(value >> 8);

@@ -55,7 +55,7 @@ static uint64_t number(const uint8_t *bytes, size_t size)
 /* The packets still to go at a circuit, as a panel reads them in the sender's record. Copies are not counted. */
 static unsigned long packets_left(const uint8_t *record, size_t c)
 {
-    return (unsigned long)number(record + AES18_SENDER_LEFT + AES18_SENDER_CIRCUIT * c, 2);
+    return (unsigned long)number(record + AES18_SENDER_LEFT + AES18_SENDER_CIRCUIT_BYTES * c, 2);
 }
 
 /*

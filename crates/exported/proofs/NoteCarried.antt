@@ -106,9 +106,9 @@ module _ (t : Totals) (fits : TotalsFit t) (rest : List ℕ) where
 -- ---- an answer that counts nothing
 
 -- every byte stays as it was
-pub note-left : (bytes answer : List ℕ) → Bytes bytes → notedSaid (totalsIn bytes) (noticeSaid answer) ≡ totalsIn bytes → noteRecord bytes answer ≡ bytes
+pub note-unchanged : (bytes answer : List ℕ) → Bytes bytes → notedSaid (totalsIn bytes) (noticeSaid answer) ≡ totalsIn bytes → noteRecord bytes answer ≡ bytes
 unfolding noteRecord noteAnswered noRoom
-note-left bytes answer are none = go (ltb (length bytes) totalsLength) refl (ltb (length answer) readAnswerLength)
+note-unchanged bytes answer are none = go (ltb (length bytes) totalsLength) refl (ltb (length answer) readAnswerLength)
   where
     go : (b : Bool) → ltb (length bytes) totalsLength ≡ b → (a : Bool)
         → cond (eqb (cond (b || a) 255 0) 0) (sets bytes 0 (totalsBytes (notedSaid (totalsIn bytes) (noticeSaid answer)))) bytes ≡ bytes

@@ -115,18 +115,18 @@ module _ (bytes store : List ℕ) (short : length bytes < receiverLength) where
   lent : Lent
   lent = record { bytes = bytes; store = store }
 
-  call-left : (c : LentRead) → afterLentRead lent c ≡ lent
+  call-unchanged : (c : LentRead) → afterLentRead lent c ≡ lent
   unfolding afterLentRead lent
-  call-left c =
+  call-unchanged c =
       let (number, same, kept, told) = read-short bytes store (c .call .bytes) (c .call .from) (c .call .to) (c .answer) short in
       λ i. record { bytes = sym same i; store = sym kept i }
 
-  rest-left : (cs : List LentRead) → afterLentReads lent cs ≡ lent
+  rest-unchanged : (cs : List LentRead) → afterLentReads lent cs ≡ lent
   unfolding afterLentReads
-  rest-left [] = refl
-  rest-left (c ∷ cs) = ap (λ e. afterLentReads e cs) (call-left c) ∙ rest-left cs
+  rest-unchanged [] = refl
+  rest-unchanged (c ∷ cs) = ap (λ e. afterLentReads e cs) (call-unchanged c) ∙ rest-unchanged cs
 
-  pub calls-left : (list : List ℕ) (cs : List LentRead)
+  pub calls-unchanged : (list : List ℕ) (cs : List LentRead)
       → afterLentReads (record { bytes = listRecord bytes list; store = store }) cs ≡ record { bytes = bytes; store = store }
   unfolding lent
-  calls-left list cs = rw (← list-short bytes list short .1) (rest-left cs)
+  calls-unchanged list cs = rw (← list-short bytes list short .1) (rest-unchanged cs)

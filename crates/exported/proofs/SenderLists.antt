@@ -168,21 +168,21 @@ module _ (bytes store : List ℕ) (short : length bytes < senderLength) where
   lent : Lent
   lent = record { bytes = bytes; store = store }
 
-  call-left : (c : Call) (answer : List ℕ) → afterLentCall lent c answer ≡ lent
+  call-unchanged : (c : Call) (answer : List ℕ) → afterLentCall lent c answer ≡ lent
   unfolding afterLentCall lent
-  call-left (offer c p r message) answer =
+  call-unchanged (offer c p r message) answer =
       let (number, same, kept) = offer-short bytes store c p r message short in
       λ i. record { bytes = sym same i; store = sym kept i }
-  call-left (block n u buffer y) answer =
+  call-unchanged (block n u buffer y) answer =
       let (number, same, written, told) = block-short bytes store n u y buffer answer short in
       λ i. record { bytes = sym same i; store = store }
 
-  rest-left : (cs : List LentCall) → afterLentCalls lent cs ≡ lent
+  rest-unchanged : (cs : List LentCall) → afterLentCalls lent cs ≡ lent
   unfolding afterLentCalls
-  rest-left [] = refl
-  rest-left (c ∷ cs) = ap (λ e. afterLentCalls e cs) (call-left (c .call) (c .answer)) ∙ rest-left cs
+  rest-unchanged [] = refl
+  rest-unchanged (c ∷ cs) = ap (λ e. afterLentCalls e cs) (call-unchanged (c .call) (c .answer)) ∙ rest-unchanged cs
 
-  pub calls-left : (list : List ℕ) (cs : List LentCall)
+  pub calls-unchanged : (list : List ℕ) (cs : List LentCall)
       → afterLentCalls (record { bytes = listRecord bytes list; store = store }) cs ≡ record { bytes = bytes; store = store }
   unfolding lent
-  calls-left list cs = rw (← list-short bytes list short .1) (rest-left cs)
+  calls-unchanged list cs = rw (← list-short bytes list short .1) (rest-unchanged cs)

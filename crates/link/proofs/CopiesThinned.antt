@@ -5,12 +5,13 @@ use native.Mathlib.Omega.{arith}
 use mathlib.Core.Bool.{Bool, true, false, cond, not, _&&_, _||_, or-false}
 use mathlib.Core.List.{List, [], _∷_, _++_, map, cons≢nil, head-eq-of-cons-eq, tail-eq-of-cons-eq}
 use mathlib.Core.Path.{_≡_, refl, ap, _∙_}
-use lib.ListN.{replicate}
+use lib.ListN.{length, replicate}
 use lib.Dec.{eqb}
 use borrow.Author.Tests.{eq-eqb, ne-eqb}
 use Rattle.packet.specs.Lists.{anyOf, those}
 use Rattle.queues.specs.Queues.{Copy}
 use Rattle.queues.specs.Sent.{eachOnce, Sent, copiesOf, Numbered}
+use Rattle.queues.proofs.LeftCounts.{others-alike}
 use Rattle.link.proofs.Steps.{ThinnedBy, Thinned, cameOf}
 
 -- a copy placed, and whether its frame came whole
@@ -86,12 +87,14 @@ module _ (o : Copy) (rest : List Arrival) where
       go false heard t = (0, heard, refl, t)
 
   -- its number is among their numbers once
+  copiesIn-each : (bs : List Bool) → copiesIn (each o bs ++ rest) ≡ replicate (length bs) o ++ copiesIn rest
+  copiesIn-each [] = refl
+  copiesIn-each (b ∷ bs) = ap (λ l. o ∷ l) (copiesIn-each bs)
+
   eachOnce-each : (bs : List Bool)
       → those (λ i. not (eqb i (o .number))) (eachOnce (copiesIn rest)) ≡ eachOnce (copiesIn rest)
       → those (λ i. not (eqb i (o .number))) (eachOnce (copiesIn (each o bs ++ rest))) ≡ eachOnce (copiesIn rest)
-  unfolding eachOnce those
-  eachOnce-each [] e = e
-  eachOnce-each (b ∷ bs) e = rw (eachOnce-each bs e, eq-eqb (o .number) (o .number) refl) e
+  eachOnce-each bs e = rw (copiesIn-each bs) (others-alike (length bs) o (copiesIn rest) e)
 
 -- ---- all packets
 

@@ -1,7 +1,7 @@
 -- Demand 3, one claim about whole lists of calls (document 01, "What demand 3 counts"), from top to bottom: what was sent, what became of the bits, what
 -- came, what the receiver told, what is taken as given, and the claim. The calls are those of the contracts: `Rattle.queues.specs.Calls` and
 -- `Rattle.receiver.specs.Reads` have the lists of them, the records and stores between them, and the blocks and notices that they give;
--- `Rattle.queues.specs.Effects` has what they send and place.
+-- `Rattle.queues.specs.Effects` has what they send and place, `Rattle.queues.specs.Sent` what of it is at a circuit, each packet counted once.
 use Prim.Native.Nat.{ℕ, zero, suc, _+_, _-_, _*_, _<_}
 use mathlib.Core.Bool.{Bool, true, false, cond, not, _&&_, _||_}
 use mathlib.Core.List.{List, [], _∷_, _++_, map, flatten}
@@ -16,7 +16,7 @@ use Rattle.packet.specs.declared.Circuit.{Circuit}
 use Rattle.packet.specs.Circuits.{circuitsOf, alike, listRefusal, noCircuit}
 use Rattle.packet.specs.Messages.{packets}
 use Rattle.packet.specs.Lists.{anyOf, allOf, those, AllAre}
-use Rattle.queues.specs.Queues.{Copy, Message, Queues, freshQueues, Placed}
+use Rattle.queues.specs.Queues.{Message, Queues, freshQueues, Placed}
 use Rattle.queues.specs.Effects.{Effect, TakenBlock, bitsOfBlock, messagesSent, blocksTaken}
 use Rattle.queues.specs.Calls.{Call, offer, block, End, freshEnd, effects, blocksMade}
 use Rattle.queues.specs.Sent.{messagesAt, placedAt, eachOnce, framesOf}

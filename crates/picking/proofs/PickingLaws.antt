@@ -15,7 +15,7 @@ use Rattle.offering.specs.declared.Slot.{Slot}
 use Rattle.offering.specs.declared.Sender.{Sender}
 use Rattle.offering.specs.Record.{slotAt, pending, slotInRange, inRange}
 use Rattle.offering.proofs.Ranges.{and-elim, SlotFacts, slotInRange-facts, facts-slotInRange, inRange-facts, facts-inRange, slotsInRange-set, slotInRange-slotAt}
-use Rattle.picking.specs.Picking.{enabled, waitsAt, goingRound, firstWaiting, orElse, pickFrom, pick, advanced, served, copiesWaiting}
+use Rattle.picking.specs.Picking.{enabled, waitsAt, goingRound, firstWaiting, orElse, pickFrom, pick, copyPlaced, packetPlaced, advanced, served, copiesWaiting}
 
 -- ---- picking step by step, as the code goes
 
@@ -153,50 +153,25 @@ pub slotPending : (t : Slot) → slotInRange t ≡ true → pending t ≡ true �
 unfolding pending
 slotPending t e p = record { inRange = slotInRange-facts t e; pending = ltb-true _ _ p }
 
--- the slot after a copy that another follows, and after a packet's last
-abbrev pub copied : Slot → Slot
-copied t =
-    record {
-      index = t .index;
-      priority = t .priority;
-      repetition = t .repetition;
-      copy = t .copy + 1;
-      length = t .length;
-      place = t .place;
-      left = t .left;
-    }
-
-abbrev pub movedOn : Slot → Slot
-movedOn t =
-    record {
-      index = (t .index + 1) % 8;
-      priority = t .priority;
-      repetition = t .repetition;
-      copy = 0;
-      length = t .length;
-      place = t .place + 1;
-      left = t .left - 1;
-    }
-
-pub advanced-copied : (t : Slot) → t .copy < t .repetition → advanced t ≡ copied t
+pub advanced-copyPlaced : (t : Slot) → t .copy < t .repetition → advanced t ≡ copyPlaced t
 unfolding advanced
-advanced-copied t h = rw (lt-ltb (t .copy) (t .repetition) h)
+advanced-copyPlaced t h = rw (lt-ltb (t .copy) (t .repetition) h)
 
-pub advanced-movedOn : (t : Slot) → t .repetition ≤ t .copy → advanced t ≡ movedOn t
+pub advanced-packetPlaced : (t : Slot) → t .repetition ≤ t .copy → advanced t ≡ packetPlaced t
 unfolding advanced
-advanced-movedOn t h = rw (le-ltb (t .copy) (t .repetition) h)
+advanced-packetPlaced t h = rw (le-ltb (t .copy) (t .repetition) h)
 
 -- what holds in both cases
-advanced-cases : (P : Slot → Type 0) (t : Slot) → (t .copy < t .repetition → P (copied t)) → (t .repetition ≤ t .copy → P (movedOn t)) → P (advanced t)
+advanced-cases : (P : Slot → Type 0) (t : Slot) → (t .copy < t .repetition → P (copyPlaced t)) → (t .repetition ≤ t .copy → P (packetPlaced t)) → P (advanced t)
 advanced-cases P t f g = go (ltb (t .copy) (t .repetition)) refl
   where
     go : (b : Bool) → ltb (t .copy) (t .repetition) ≡ b → P (advanced t)
     go true e =
         let h : t .copy < t .repetition = ltb-true _ _ e in
-        rw (advanced-copied t h) (f h)
+        rw (advanced-copyPlaced t h) (f h)
     go false e =
         let h : t .repetition ≤ t .copy = ltb-false _ _ e in
-        rw (advanced-movedOn t h) (g h)
+        rw (advanced-packetPlaced t h) (g h)
 
 -- a slot stays in range, and one copy less waits there
 pub slotInRange-advanced : (t : Slot) → slotInRange t ≡ true → pending t ≡ true → slotInRange (advanced t) ≡ true

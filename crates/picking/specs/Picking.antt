@@ -43,12 +43,11 @@ pickFrom s enable (p ∷ ps) =
 unfoldable pub pick : Sender → ℕ → Option ℕ
 pick s enable = pickFrom s enable (3 ∷ 2 ∷ 1 ∷ 0 ∷ [])
 
--- a copy placed: "Repetition 0 to 5 gives that many copies after the original .. before the circuit's next packet"; the index counts
--- packets modulo 8; a packet is left while "some copy is still to place" (document 02, ask 5)
-unfoldable pub advanced : Slot → Slot
-advanced t =
-    cond (ltb (t .copy) (t .repetition))
-    (record {
+-- a slot behind a copy that another of its packet follows: "Repetition 0 to 5 gives that many copies after the original .. before the circuit's
+-- next packet"
+abbrev pub copyPlaced : Slot → Slot
+copyPlaced t =
+    record {
       index = t .index;
       priority = t .priority;
       repetition = t .repetition;
@@ -56,8 +55,12 @@ advanced t =
       length = t .length;
       place = t .place;
       left = t .left;
-    })
-    (record {
+    }
+
+-- and behind a packet's last copy: the index counts packets modulo 8, and a packet is left while "some copy is still to place" (document 02, ask 5)
+abbrev pub packetPlaced : Slot → Slot
+packetPlaced t =
+    record {
       index = (t .index + 1) % 8;
       priority = t .priority;
       repetition = t .repetition;
@@ -65,7 +68,11 @@ advanced t =
       length = t .length;
       place = t .place + 1;
       left = t .left - 1;
-    })
+    }
+
+-- a copy placed
+unfoldable pub advanced : Slot → Slot
+advanced t = cond (ltb (t .copy) (t .repetition)) (copyPlaced t) (packetPlaced t)
 
 -- the record after a copy of circuit c is placed
 unfoldable pub served : Sender → ℕ → Sender

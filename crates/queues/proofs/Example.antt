@@ -133,19 +133,29 @@ leftCalls =
     block 256 256 (replicate 32 0) nothingWanted ∷
     []
 
--- the packets still to go at numbers 0, 1 and 2, the last of which is not listed, after the first n calls
-leftAfter : ℕ → List ℕ
-leftAfter n =
+-- the packets still to go at numbers 0, 1 and 2, the last of which is not listed, after the first n calls: in the queues and in the record
+leftInQueues : ℕ → List ℕ
+leftInQueues n =
     let q = queuesAfterCalls list (replicate 16384 0) (take n leftCalls) in
     length (eachOnce (queueAt q 0 .copies)) ∷ length (eachOnce (queueAt q 1 .copies)) ∷ length (eachOnce (queueAt q 2 .copies)) ∷ []
 
-left-example : (leftAfter 0 ≡ 0 ∷ 0 ∷ 0 ∷ [])
-    × (leftAfter 1 ≡ 1 ∷ 0 ∷ 0 ∷ [])
-    × (leftAfter 2 ≡ 1 ∷ 2 ∷ 0 ∷ [])
-    × (leftAfter 3 ≡ 1 ∷ 2 ∷ 0 ∷ [])
-    × (leftAfter 4 ≡ 1 ∷ 1 ∷ 0 ∷ [])
-    × (leftAfter 5 ≡ 0 ∷ 0 ∷ 0 ∷ [])
-unfolding list nothingWanted leftCalls leftAfter
+leftInRecord : ℕ → List ℕ
+leftInRecord n =
+    let s = afterCalls (freshEnd list (replicate 16384 0)) (take n leftCalls) .sender in
+    slotAt s 0 .left ∷ slotAt s 1 .left ∷ slotAt s 2 .left ∷ []
+
+leftExpected : List (List ℕ)
+leftExpected =
+    (0 ∷ 0 ∷ 0 ∷ []) ∷
+    (1 ∷ 0 ∷ 0 ∷ []) ∷
+    (1 ∷ 2 ∷ 0 ∷ []) ∷
+    (1 ∷ 2 ∷ 0 ∷ []) ∷
+    (1 ∷ 1 ∷ 0 ∷ []) ∷
+    (0 ∷ 0 ∷ 0 ∷ []) ∷
+    []
+
+left-example : (map leftInQueues (0 ∷ 1 ∷ 2 ∷ 3 ∷ 4 ∷ 5 ∷ []) ≡ leftExpected) × (map leftInRecord (0 ∷ 1 ∷ 2 ∷ 3 ∷ 4 ∷ 5 ∷ []) ≡ leftExpected)
+unfolding list nothingWanted leftCalls leftInQueues leftInRecord leftExpected
     odd lowBits byteBits bitsOf xor poly divided fcsBit fcsRun preset complement fcsOf lowFirst stuffFrom stuff flag withFcs frame
     circuitsOf anyOf wrongLength addressFF wrongExtension alike twoAlike circuitsRefusal listRefusal listed noCircuit recordOf listing
     longest header headed segment packets linkOf control extensionOf packetOf
@@ -157,5 +167,5 @@ unfolding list nothingWanted leftCalls leftAfter
     freshQueue freshQueues queueAt copyOf copiesFrom messageCopies messageFor offered offerQueues
     frontHas firstQueue pickQueueFrom pickQueue behindFirst behind serveQueues ruledQueues
     takenNone andTaken takingFirst taking takeUpTo copiesInQueues takeFrames
-    takenFor queuesAfterEffect accepted afterCall effect effectOf effects queuesAfter queuesAfterCalls those eachOnce
-left-example = (refl, refl, refl, refl, refl, refl)
+    takenFor queuesAfterEffect accepted afterCall afterCalls effect effectOf effects queuesAfter queuesAfterCalls those eachOnce
+left-example = (refl, refl)

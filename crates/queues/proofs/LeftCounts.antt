@@ -52,16 +52,19 @@ lower-numbersFrom d m (suc n) h =
     let apart : m ≡ d → ⊥ = omega arith in
     rw (ne-eqb m d apart) (ap (λ l. m ∷ l) (lower-numbersFrom d (suc m) n (omega arith)))
 
--- copies that are alike are of one packet, also where some of them are placed, but not the last
+-- behind one of copies that are alike, the others give no other number
+pub others-alike : (n : ℕ) (x : Copy) (rest : List Copy) → those (λ i. not (eqb i (x .number))) (eachOnce rest) ≡ eachOnce rest
+    → those (λ i. not (eqb i (x .number))) (eachOnce (replicate n x ++ rest)) ≡ eachOnce rest
+unfolding eachOnce those
+others-alike zero x rest none = none
+others-alike (suc n) x rest none = rw (others-alike n x rest none, eq-eqb (x .number) (x .number) refl) none
+
+-- so they are of one packet, also where some of them are placed, but not the last
 eachOnce-alike : (copy repetition : ℕ) (x : Copy) (rest : List Copy) → copy ≤ repetition
     → those (λ i. not (eqb i (x .number))) (eachOnce rest) ≡ eachOnce rest
     → eachOnce (drop copy (replicate (suc repetition) x ++ rest)) ≡ x .number ∷ eachOnce rest
-unfolding eachOnce those
-eachOnce-alike zero zero x rest h none = ap (λ l. x .number ∷ l) none
-eachOnce-alike zero (suc repetition) x rest h none =
-    let n = x .number in
-    let once : those (λ i. not (eqb i n)) (n ∷ eachOnce rest) ≡ eachOnce rest = rw (eq-eqb n n refl) none in
-    ap (λ l. n ∷ those (λ i. not (eqb i n)) l) (eachOnce-alike zero repetition x rest (omega arith) none) ∙ ap (λ l. n ∷ l) once
+unfolding eachOnce
+eachOnce-alike zero repetition x rest h none = ap (λ l. x .number ∷ l) (others-alike repetition x rest none)
 eachOnce-alike (suc copy) zero x rest h none = absurd (omega arith)
 eachOnce-alike (suc copy) (suc repetition) x rest h none = eachOnce-alike copy repetition x rest (omega arith) none
 
@@ -162,7 +165,7 @@ left-fresh cs (suc (suc (suc (suc c)))) = refl
 
 -- ---- after any calls
 
-module _ (bytes store : List ℕ) (calls : List Call) (c : ℕ) where
+module _ (bytes store : List ℕ) (calls : List Call) where
   s : Sender
   s = afterCalls (freshEnd bytes store) calls .sender
 
@@ -173,9 +176,9 @@ module _ (bytes store : List ℕ) (calls : List Call) (c : ℕ) where
   unfolding s q
   stands = stands-queues bytes store calls
 
-  left-unlisted : s .circuits .count ≤ c → slotAt s c .left ≡ length (eachOnce (queueAt q c .copies))
+  left-unlisted : (c : ℕ) → s .circuits .count ≤ c → slotAt s c .left ≡ length (eachOnce (queueAt q c .copies))
   unfolding s eachOnce queueAt freshQueue
-  left-unlisted out =
+  left-unlisted c out =
       let stayed = kept-calls c calls (freshEnd bytes store) in
       let same : slotAt s c ≡ slotAt (fresh (listing bytes)) c = stayed .slot (rw (stayed .circuits) at out) in
       let none : queueAt q c ≡ freshQueue noCircuit = List·getD-eq-default (q .queues) (freshQueue noCircuit) (omega (arith, stands .count, out)) in
@@ -183,9 +186,9 @@ module _ (bytes store : List ℕ) (calls : List Call) (c : ℕ) where
 
 pub left-counts : LeftCounts
 unfolding LeftCounts LeftStands s q
-left-counts bytes store calls c = go (ltb c (afterCalls (freshEnd bytes store) calls .sender .circuits .count)) refl
+left-counts bytes store calls c = go (ltb c (s bytes store calls .circuits .count)) refl
   where
-    go : (b : Bool) → ltb c (afterCalls (freshEnd bytes store) calls .sender .circuits .count) ≡ b
-        → slotAt (afterCalls (freshEnd bytes store) calls .sender) c .left ≡ length (eachOnce (queueAt (queuesAfterCalls bytes store calls) c .copies))
-    go true e = left-stands _ _ _ (stands bytes store calls c) c (ltb-true c _ e)
+    go : (b : Bool) → ltb c (s bytes store calls .circuits .count) ≡ b
+        → slotAt (s bytes store calls) c .left ≡ length (eachOnce (queueAt (q bytes store calls) c .copies))
+    go true e = left-stands _ _ _ (stands bytes store calls) c (ltb-true c _ e)
     go false e = left-unlisted bytes store calls c (ltb-false c _ e)

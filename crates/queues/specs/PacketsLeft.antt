@@ -16,7 +16,8 @@ LeftCounts =
     (bytes store : List ℕ) (calls : List Call) (c : ℕ)
     → slotAt (afterCalls (freshEnd bytes store) calls .sender) c .left ≡ length (eachOnce (queueAt (queuesAfterCalls bytes store calls) c .copies))
 
--- "a record in which it differs counts as outside its range": one that stands for queues is in range, and has their packets at each circuit
+-- "a record in which it differs counts as outside its range": every record that stands for queues, as one in range does (`InRangeStands`), has their
+-- packets at each circuit
 unfoldable pub LeftStands : Type 0
 LeftStands =
     (s : Sender) (store : List ℕ) (q : Queues) → Stands s store q → (c : ℕ) → c < s .circuits .count

@@ -1,5 +1,5 @@
 -- What a record and a store mean: the queues for which they stand.
-use Prim.Native.Nat.{ℕ, suc, _+_, _-_, _%_, _<_}
+use Prim.Native.Nat.{ℕ, suc, _+_, _-_, _%_, _≤_, _<_}
 use mathlib.Core.Bool.{true}
 use mathlib.Core.List.{List}
 use mathlib.Core.Path.{_≡_}
@@ -9,7 +9,7 @@ use Rattle.packet.specs.Circuits.{noCircuit}
 use Rattle.packet.specs.Messages.{packets}
 use Rattle.offering.specs.declared.Slot.{Slot}
 use Rattle.offering.specs.declared.Sender.{Sender}
-use Rattle.offering.specs.Record.{slotAt, messageAt, inRange}
+use Rattle.offering.specs.Record.{storeLength, slotAt, messageAt, inRange}
 use Rattle.queues.specs.Queues.{Queue, Queues, queueAt, copiesFrom}
 
 -- a circuit's slot and the message in its region stand for its queue, where every copy of `done` packets is placed: the message's packets
@@ -36,3 +36,10 @@ pub record Stands (s : Sender) (store : List ℕ) (q : Queues) : Type 0 where
       (c : ℕ) →
       c < s .circuits .count →
       StandsFor (getD (s .circuits .list) c noCircuit) (slotAt s c) (messageAt s store c) (queueAt q c)
+
+-- a record in range, with places for four circuits and slots as every record of the code, stands for queues, whatever the store holds: so 14 refuses
+-- exactly the records that stand for none
+unfoldable pub InRangeStands : Type 0
+InRangeStands =
+    (s : Sender) (store : List ℕ) → length (s .circuits .list) ≡ 4 → length (s .slots) ≡ 4 → storeLength ≤ length store → inRange s ≡ true
+    → (q : Queues) × Stands s store q

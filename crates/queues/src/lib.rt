@@ -1,7 +1,8 @@
-// What the sender's calls mean, as queues of waiting copies: no code, only definitions, theorems, and four functions that carry those of document 02,
+// What the sender's calls mean, as queues of waiting copies: no code, only definitions, theorems, and five functions that carry those of document 02,
 // asks 4 and 5.
 ghost use Rattle.queues.specs.EnableBits.{EnableInForce, PlacedEnabled};
 ghost use Rattle.queues.specs.PacketsLeft.{LeftCounts, LeftStands};
+ghost use Rattle.queues.specs.Stands.{InRangeStands};
 
 // The enable bits in force are those of the last system packet sent.
 fn enable_in_force()
@@ -21,4 +22,9 @@ fn left_counts()
 // So they are in every record that stands for queues.
 fn left_stands()
     ensures { λ r. ⌜ LeftStands ⌝ }
+{}
+
+// Every record in range stands for queues.
+fn in_range_stands()
+    ensures { λ r. ⌜ InRangeStands ⌝ }
 {}

@@ -263,8 +263,8 @@ fn blocks() {
     let offered = first_offers(sender, &mut store);
     let waiting = refused_circuits(offered, &mut store);
     let refused = refused_numbers(waiting, &mut store);
-    let left = first_blocks(refused, &store);
-    let again = offer(left, &mut store, 0, 0, 5, b"");
+    let placed = first_blocks(refused, &store);
+    let again = offer(placed, &mut store, 0, 0, 5, b"");
     last_blocks(again, &store);
 }
 

@@ -4,7 +4,7 @@ use Prim.Native.Nat.{_+_, _%_}
 use native.Mathlib.Omega.{arith}
 use borrow.Author.Needs.{needs}
 use Rattle.packet.proofs.Segments.{packets-most}
-use Rattle.picking.proofs.PickingLaws.{slotPending, advanced-copied, advanced-movedOn}
+use Rattle.picking.proofs.PickingLaws.{slotPending, advanced-copyPlaced, advanced-packetPlaced}
 use Rattle.picking.proofs.rule.advance.Statement.{statement}
 use Rattle.picking.proofs.rule.advance.Tie as tie
 
@@ -12,7 +12,7 @@ add-next : tie.Need-add-next
 add-next c = search needs
 
 returns : tie.Need-returns
-returns c = sym (advanced-copied _ (search needs))
+returns c = sym (advanced-copyPlaced _ (search needs))
 
 wrapping-add-u8-requires : tie.Need-wrapping-add-u8-requires
 wrapping-add-u8-requires c κs = search needs
@@ -35,7 +35,7 @@ returns-2 : tie.Need-returns-2
 returns-2 c =
     let t = c .before .before .before .before .before .args .t in
     let e : c .before .before .wrapping-add-u8 .result % 8 ≡ (t .index + 1) % 8 = omega (arith, c .before .before .wrapping-add-u8 .ensures) in
-    rw e (sym (advanced-movedOn t (c .before .before .before .if1 .left)))
+    rw e (sym (advanced-packetPlaced t (c .before .before .before .if1 .left)))
 
 pub advance-spec : {M : Type 1} → statement M
 advance-spec = tie.close (tie.spec add-next returns wrapping-add-u8-requires add-next-2 sub-next returns-2)
