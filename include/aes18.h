@@ -173,8 +173,8 @@ extern "C" {
  *
  * Out of range, and refused by RECORD, are: more than four circuits, circuits that a listing refuses by ADDRESS, EXTENSION or ALIKE, a number of a
  * listed circuit outside what stands here, so also a left that is not its message's packets less place, a circuit last served above 3, enable bits in
- * force above 15, a framing that no bits leave, and, at any circuit number, 2 or more where a byte is 1 or 0. Nothing else is judged at numbers that
- * are not listed.
+ * force above 15, a framing that no bits leave, and in a receiver's record, at any circuit number, 2 or more where a byte tells whether a packet came.
+ * Nothing else is judged at numbers that are not listed.
  *
  * A framing alone, 24 bytes, is that of a receiver's record, its bytes 37 to 60: phase, ones, count, and 21 bytes of bits. A fresh one is 24 times 0,
  * which a caller writes itself. Out of range is one that no bits leave.
@@ -242,7 +242,8 @@ uint32_t aes18_sender_block(uint8_t *record, size_t record_len, const uint8_t *s
  *     record[AES18_SENDER_LEFT + AES18_SENDER_CIRCUIT_BYTES * c] + 256 * record[AES18_SENDER_LEFT + AES18_SENDER_CIRCUIT_BYTES * c + 1]
  *
  * packets still to go. This is 0 exactly where nothing is pending, so where no offer is refused by PENDING. An accepted offer sets it to the number of
- * the message's packets, 1 to 256. Copies are not counted: a packet counts until its last copy is placed.
+ * the message's packets, 1 to 256. Copies are not counted: a packet counts until its last copy is placed. A panel reads the record between calls: while
+ * one runs, its bytes may be half written.
  */
 #define AES18_SENDER_LEFT 21
 #define AES18_SENDER_CIRCUIT_BYTES 10

@@ -1079,6 +1079,7 @@ static void test_pass(uint64_t n)
     s.code = AES18_HIGHEST_CODE;
     s.length[INPUT] = AES18_LONGEST_INFORMATION;
     do {
+        memset(s.bytes[ANSWER], 0, AES18_BLOCK_ANSWER);
         CALL(&s, &block, AES18_ACCEPTED);
         whole += read_block(&r, &s);
         s.system = 0;
@@ -1097,7 +1098,7 @@ static uint64_t left(const struct call *c, size_t circuit)
     return bytes[0] + 256u * bytes[1];
 }
 
-/* Where a packet waits, of messages of no bytes at four circuits: the bit of value 1 << c is set for circuit c. */
+/* Where packets are still to go: the bit of value 1 << c is set for circuit c. */
 static unsigned waiting(const struct call *c)
 {
     unsigned circuits = 0;
@@ -1328,14 +1329,17 @@ static uint64_t place_next(struct sending *t)
 
     s->n = s->u = AES18_FEWEST_BLOCK_BITS + 331 * (t->block++ % 13);
     s->length[BLOCK] = (size_t)((s->n + 7) / 8);
+    memset(s->bytes[BLOCK], OLD, s->length[BLOCK]);
     CALL(s, &block, AES18_ACCEPTED);
     do {
         IS(aes18_receiver_read(t->record, sizeof t->record, t->store, sizeof t->store, s->bytes[BLOCK], s->length[BLOCK], from, s->n, answer,
                                sizeof answer), AES18_ACCEPTED);
         from += number(answer + AES18_READ_BITS, 8);
         if (answer[AES18_READ_NOTICE] == AES18_NOTICE_CIRCUIT) {
-            IS(t->queues[answer[AES18_READ_CIRCUIT]].next < t->queues[answer[AES18_READ_CIRCUIT]].end, 1);
-            t->queues[answer[AES18_READ_CIRCUIT]].next++;
+            struct queue *q = &t->queues[answer[AES18_READ_CIRCUIT]];
+
+            IS(q->next < q->end, 1);
+            q->next++;
             placed++;
         }
     } while (answer[AES18_READ_NOTICE] != AES18_NOTICE_END);

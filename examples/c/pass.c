@@ -1,6 +1,6 @@
 /*
- * A pass in C. A sender lists two circuits, takes messages and makes blocks of user bits, the first with a system packet. A stretch of the bits is
- * damaged. A receiver reads them in two parts, cut inside a byte; every notice is printed and noted in totals, and the totals are printed in the end.
+ * A pass in C. A sender lists two circuits, takes messages and makes blocks of user bits, the first with a system packet; the packets still to go are
+ * printed before and behind each block. A stretch of the bits is damaged. A receiver reads them in two parts, cut inside a byte; every notice is printed and noted in totals, and the totals are printed in the end.
  * examples/c/run builds and runs it; the file `expected` has what it prints.
  */
 #include "aes18.h"
@@ -52,10 +52,16 @@ static uint64_t number(const uint8_t *bytes, size_t size)
     return value;
 }
 
-/* The packets still to go at a circuit, as a panel reads them in the sender's record. Copies are not counted. */
-static unsigned long packets_left(const uint8_t *record, size_t c)
+/* Prints the packets still to go at each circuit, as a panel reads them in the sender's record. Copies are not counted. */
+static void tell_left(const uint8_t *record)
 {
-    return (unsigned long)number(record + AES18_SENDER_LEFT + AES18_SENDER_CIRCUIT_BYTES * c, 2);
+    size_t c;
+
+    printf("packets still to go:");
+    for (c = 0; c < CIRCUITS; c++)
+        printf("%s %lu at circuit %lu", c == 0 ? "" : ",",
+               (unsigned long)number(record + AES18_SENDER_LEFT + AES18_SENDER_CIRCUIT_BYTES * c, 2), (unsigned long)c);
+    printf("\n");
 }
 
 /*
@@ -76,13 +82,14 @@ static void make_blocks(uint8_t *bits)
             check("offering",
                   aes18_sender_offer(record, sizeof record, store, sizeof store, c, priority[c], repetition[c],
                                      (const uint8_t *)messages[b][c], strlen(messages[b][c])));
-        printf("packets still to go: %lu at circuit 0, %lu at circuit 1\n", packets_left(record, 0), packets_left(record, 1));
+        tell_left(record);
         check("block making",
               aes18_sender_block(record, sizeof record, store, sizeof store, BLOCK_BITS, USABLE_BITS, b == 0, enable, 1, info, sizeof info,
                                  bits + b * BLOCK_BYTES, BLOCK_BYTES, answer, sizeof answer));
         printf("block %lu: %lu frames, %lu bits used, enable bits in force %u\n", (unsigned long)b,
                (unsigned long)number(answer + AES18_BLOCK_PLACED, 4), (unsigned long)number(answer + AES18_BLOCK_USED, 4),
                record[AES18_SENDER_ENABLE]);
+        tell_left(record);
     }
 }
 

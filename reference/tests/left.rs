@@ -204,7 +204,7 @@ fn made_by_calls() -> Vec<([u8; SENDER_RECORD], [usize; 4])> {
         made.push((end.record, [first, 3, 256, 1]));
     }
     while end.left()[1] > 0 {
-        end.block(ONE_FRAME).unwrap();
+        assert!(!end.block(ONE_FRAME).unwrap().is_empty());
     }
     made.push((end.record, [0, 0, 256, 1]));
     assert_eq!(end.block(PLAIN).unwrap().len(), 8);

@@ -74,7 +74,8 @@ still to go after it, at each circuit that has some; then the sums, and the
 enable bits in force behind the last block. A packet is still to go until its
 last copy is placed. A warning names each circuit that has such packets at the
 end, and says whether they wait for a later block or for their priority to be
-enabled. An offer at a circuit that has some is refused, and told how many.
+enabled. An offer at a circuit that has some is refused, and the refusal says
+how many.
 
 A capture (iec958) is in ALSA's format IEC958_SUBFRAME_LE, without a header:
 words of 32 bits, the lowest byte first, left and right in turn. In each are the

@@ -29,15 +29,19 @@ const MADE: [&str; 6] = [
     "none any more",
     "a packet with some copies placed and some not",
 ];
+/// The two kinds of calls.
+const CALLS: [&str; 2] = ["in a block call", "in an offer"];
+const BLOCK: usize = 0;
+const OFFER: usize = 1;
 /// Packets of an accepted offer.
 const OFFERS: [&str; 3] = ["1", "2 to 255", "256"];
 
 #[derive(Default)]
 pub struct Left {
-    /// Records out of range by one field alone: in block calls and in offers, by what it has; by its circuit number; by the circuits listed.
-    blocks_out: [u64; 8],
-    offers_out: [u64; 8],
-    numbers: [u64; 4],
+    /// Records out of range by one field alone, in block calls and in offers: by what it has; where it is one more, and where it is one less, by its
+    /// circuit number. In both by the circuits listed.
+    out: [[u64; 8]; 2],
+    by_one: [[[u64; 4]; 2]; 2],
     listed: [u64; 4],
     /// Wrong fields in the records of accepted calls, which are of numbers that are not listed: by circuit number, and by what they have.
     not_judged: [u64; 4],
@@ -92,42 +96,39 @@ fn wrong(slot: &SenderSlot) -> [bool; 8] {
 impl Left {
     /// Counts a block call by the number answered and its record before and after it.
     pub fn block(&mut self, answered: u32, before: &[u8], after: &[u8]) {
-        match answered {
-            0 => {
-                self.add_not_judged(before);
-                self.add_made(before, after);
-            }
-            14 => {
-                let wrong = self.add_out(before);
-                add(&mut self.blocks_out, wrong);
-            }
-            _ => {}
+        if self.judged(BLOCK, answered, before) {
+            self.add_made(before, after);
         }
     }
 
     /// Counts an offer in the same way.
     pub fn offer(&mut self, answered: u32, before: &[u8], after: &[u8]) {
-        match answered {
-            0 => {
-                self.add_not_judged(before);
-                self.add_offered(before, after);
-            }
-            14 => {
-                let wrong = self.add_out(before);
-                add(&mut self.offers_out, wrong);
-            }
-            _ => {}
+        if self.judged(OFFER, answered, before) {
+            self.add_offered(before, after);
         }
     }
 
-    /// Counts a record that was refused by 14, if that is by one field alone; what that field has.
-    fn add_out(&mut self, record: &[u8]) -> [bool; 8] {
+    /// Counts what the fields of a call's record have, by the number answered; whether the call was accepted.
+    fn judged(&mut self, call: usize, answered: u32, record: &[u8]) -> bool {
+        match answered {
+            0 => self.add_not_judged(record),
+            14 => self.add_out(call, record),
+            _ => {}
+        }
+        answered == 0
+    }
+
+    /// Counts a record that was refused by 14, if that is by one field alone.
+    fn add_out(&mut self, call: usize, record: &[u8]) {
         let Some(out) = out_by_field(record) else {
-            return [false; 8];
+            return;
         };
-        self.numbers[out.number] += 1;
+        let wrong = wrong(&out.slot);
+        add(&mut self.out[call], wrong);
+        for (counts, by_one) in self.by_one[call].iter_mut().zip(wrong) {
+            counts[out.number] += u64::from(by_one);
+        }
         self.listed[out.listed - 1] += 1;
-        wrong(&out.slot)
     }
 
     fn add_not_judged(&mut self, record: &[u8]) {
@@ -166,47 +167,45 @@ impl Left {
     }
 
     /// What a comparison that covers everything has seen, and this one has not.
-    pub fn missing(&self) -> impl Iterator<Item = String> + '_ {
-        let never = |what: &'static str, names, counts| {
-            unseen(names, counts).map(move |never| format!("packets still to go: {what}{never}"))
+    pub fn missing(&self) -> Vec<String> {
+        let mut counted: Vec<(String, &[&str], &[u64])> = vec![
+            ("wrong, circuits listed".into(), &LISTED, &self.listed),
+            ("not judged, circuit".into(), &NUMBERS, &self.not_judged),
+            ("not judged,".into(), &WRONG, &self.unlisted),
+            ("after a block".into(), &MADE, &self.made),
+            ("of an offer".into(), &OFFERS, &self.offers),
+        ];
+        for (kind, call) in CALLS.iter().enumerate() {
+            counted.push((format!("{call},"), &WRONG, &self.out[kind]));
+            for (wrong, numbers) in WRONG.iter().zip(&self.by_one[kind]) {
+                counted.push((format!("{call}, {wrong}, circuit"), &NUMBERS, numbers));
+            }
+        }
+        let never = |(what, names, counts): (String, _, _)| {
+            unseen(names, counts).map(move |never| format!("packets still to go: {what} {never}"))
         };
-        never("in a block call, ", &WRONG, &self.blocks_out)
-            .chain(never("in an offer, ", &WRONG, &self.offers_out))
-            .chain(never("a wrong field of circuit ", &NUMBERS, &self.numbers))
-            .chain(never(
-                "a wrong field, circuits listed ",
-                &LISTED,
-                &self.listed,
-            ))
-            .chain(never("not judged, circuit ", &NUMBERS, &self.not_judged))
-            .chain(never("not judged, ", &WRONG, &self.unlisted))
-            .chain(never("after a block ", &MADE, &self.made))
-            .chain(never("of an offer ", &OFFERS, &self.offers))
+        counted.into_iter().flat_map(never).collect()
     }
 }
 
 impl fmt::Display for Left {
     fn fmt(&self, out: &mut fmt::Formatter<'_>) -> fmt::Result {
-        let (blocks, offers) = (
-            line(&WRONG, &self.blocks_out),
-            line(&WRONG, &self.offers_out),
-        );
-        writeln!(
-            out,
-            "packets still to go, wrong in block calls: {blocks}; in offers: {offers}"
-        )?;
-        let (numbers, listed) = (line(&NUMBERS, &self.numbers), line(&LISTED, &self.listed));
-        writeln!(
-            out,
-            "packets still to go, wrong by circuit number: {numbers}; by circuits listed: {listed}"
-        )?;
+        for (kind, call) in CALLS.iter().enumerate() {
+            let [more, less] = self.by_one[kind].map(|numbers| line(&NUMBERS, &numbers));
+            writeln!(
+                out,
+                "packets still to go, wrong {call}: {}; one more by circuit number {more}; one less {less}",
+                line(&WRONG, &self.out[kind])
+            )?;
+        }
         let (not_judged, unlisted) = (
             line(&NUMBERS, &self.not_judged),
             line(&WRONG, &self.unlisted),
         );
         writeln!(
             out,
-            "packets still to go, not listed and not judged: by circuit number {not_judged}; {unlisted}"
+            "packets still to go, wrong by circuits listed: {}; not listed and not judged: by circuit number {not_judged}; {unlisted}",
+            line(&LISTED, &self.listed)
         )?;
         let (made, offers) = (line(&MADE, &self.made), line(&OFFERS, &self.offers));
         write!(
