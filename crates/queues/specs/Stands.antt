@@ -37,8 +37,8 @@ pub record Stands (s : Sender) (store : List ℕ) (q : Queues) : Type 0 where
       c < s .circuits .count →
       StandsFor (getD (s .circuits .list) c noCircuit) (slotAt s c) (messageAt s store c) (queueAt q c)
 
--- a record in range, with places for four circuits and slots as every record of the code, stands for queues, whatever the store holds: so 14 refuses
--- exactly the records that stand for none
+-- a record in range, with places for four circuits and slots as every record of the code, stands for queues, whatever the store holds: none that 14
+-- lets pass is without a meaning
 unfoldable pub InRangeStands : Type 0
 InRangeStands =
     (s : Sender) (store : List ℕ) → length (s .circuits .list) ≡ 4 → length (s .slots) ≡ 4 → storeLength ≤ length store → inRange s ≡ true
