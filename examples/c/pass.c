@@ -1,7 +1,7 @@
 /*
  * A pass in C. A sender lists two circuits, takes messages and makes blocks of user bits, the first with a system packet; the packets still to go are
- * printed before and behind each block. A stretch of the bits is damaged. A receiver reads them in two parts, cut inside a byte; every notice is printed and noted in totals, and the totals are printed in the end.
- * examples/c/run builds and runs it; the file `expected` has what it prints.
+ * printed before and behind each block. A stretch of the bits is damaged. A receiver reads them in two parts, cut inside a byte; every notice is
+ * printed and noted in totals, and the totals are printed in the end. examples/c/run builds and runs it; the file `expected` has what it prints.
  */
 #include "aes18.h"
 

@@ -86,11 +86,11 @@ module _ (o : Copy) (rest : List Arrival) where
       go true heard (n, more, e, t) = (suc n, more, ap (λ l. o .packet ∷ l) e, t)
       go false heard t = (0, heard, refl, t)
 
-  -- its number is among their numbers once
   copiesIn-each : (bs : List Bool) → copiesIn (each o bs ++ rest) ≡ replicate (length bs) o ++ copiesIn rest
   copiesIn-each [] = refl
   copiesIn-each (b ∷ bs) = ap (λ l. o ∷ l) (copiesIn-each bs)
 
+  -- its number is among their numbers once
   eachOnce-each : (bs : List Bool)
       → those (λ i. not (eqb i (o .number))) (eachOnce (copiesIn rest)) ≡ eachOnce (copiesIn rest)
       → those (λ i. not (eqb i (o .number))) (eachOnce (copiesIn (each o bs ++ rest))) ≡ eachOnce (copiesIn rest)

@@ -37,8 +37,8 @@ pub record Stands (s : Sender) (store : List ℕ) (q : Queues) : Type 0 where
       c < s .circuits .count →
       StandsFor (getD (s .circuits .list) c noCircuit) (slotAt s c) (messageAt s store c) (queueAt q c)
 
--- a record in range, with places for four circuits and slots as every record of the code, stands for queues, whatever the store holds: none that 14
--- lets pass is without a meaning
+-- a record in range, with places for four circuits and slots as every record of the code, stands for queues, whatever a store of 16,384 bytes or more
+-- holds: none that refusals 14 and 5 let pass is without a meaning
 unfoldable pub InRangeStands : Type 0
 InRangeStands =
     (s : Sender) (store : List ℕ) → length (s .circuits .list) ≡ 4 → length (s .slots) ≡ 4 → storeLength ≤ length store → inRange s ≡ true
