@@ -1,12 +1,12 @@
 -- A record in range stands for queues: at each circuit the copies that its slot tells wait, of the message in its region, and as many packets were placed
 -- before as the index says.
-use Prim.Native.Nat.{ℕ, zero, suc, _+_, _-_, _*_, _≤_, _<_}
+use Prim.Native.Nat.{ℕ, suc, _+_, _-_, _*_, _≤_, _<_}
 use native.Mathlib.Omega.{arith}
-use native.Mathlib.Nat.{zero-add, add-zero}
+use native.Mathlib.Nat.{zero-add}
 use mathlib.Core.Bool.{true}
-use mathlib.Core.List.{List, [], _∷_}
-use mathlib.Core.Path.{_≡_, refl, sym, ap, _∙_}
-use lib.ListN.{length, drop, getD, length-drop}
+use mathlib.Core.List.{List, map}
+use mathlib.Core.Path.{_≡_, refl, _∙_}
+use lib.ListN.{length, drop, getD, length-drop, length-map}
 use lib.Seq.{length-take-le}
 use Rattle.packet.specs.Circuits.{noCircuit}
 use Rattle.packet.specs.Messages.{longest, packets}
@@ -16,6 +16,7 @@ use Rattle.offering.specs.Record.{storeLength, slotAt, messageAt, inRange}
 use Rattle.offering.proofs.Ranges.{inRange-facts, slotInRange-facts, slotInRange-slotAt}
 use Rattle.queues.specs.Queues.{Queue, freshQueue, queueAt, copiesFrom}
 use Rattle.queues.specs.Stands.{StandsFor, Stands, InRangeStands}
+use Rattle.queues.proofs.Numbers.{numbersFrom, length-numbersFrom, getD-numbersFrom}
 
 module _ (s : Sender) (store : List ℕ) where
   -- the queue that is told of a number
@@ -29,22 +30,6 @@ module _ (s : Sender) (store : List ℕ) where
         copies = drop (t .copy) (copiesFrom k (t .priority) (messageAt s store c) (suc (t .repetition)) (t .index) (t .place) n);
         sent = t .index + n;
       }
-
-  -- those of n numbers from c on
-  toldFrom : ℕ → ℕ → List Queue
-  toldFrom c zero = []
-  toldFrom c (suc n) = told c ∷ toldFrom (suc c) n
-
-  length-toldFrom : (c n : ℕ) → length (toldFrom c n) ≡ n
-  unfolding toldFrom
-  length-toldFrom c zero = refl
-  length-toldFrom c (suc n) = ap suc (length-toldFrom (suc c) n)
-
-  getD-toldFrom : (c n i : ℕ) → i < n → getD (toldFrom c n) i (freshQueue noCircuit) ≡ told (c + i)
-  unfolding toldFrom
-  getD-toldFrom c zero i h = absurd (omega arith)
-  getD-toldFrom c (suc n) zero h = ap told (sym (add-zero c))
-  getD-toldFrom c (suc n) (suc i) h = getD-toldFrom (suc c) n i (omega arith) ∙ ap told (omega arith)
 
   -- a message that is no longer than its region lies in the store
   length-messageAt : (c : ℕ) → storeLength ≤ length store → c < 4 → slotAt s c .length ≤ longest → length (messageAt s store c) ≡ slotAt s c .length
@@ -69,15 +54,19 @@ module _ (s : Sender) (store : List ℕ) where
 
 pub in-range-stands : InRangeStands
 unfolding InRangeStands queueAt
-in-range-stands s store places slots long range = (
-  record { queues = toldFrom s store 0 (s .circuits .count); last = s .last; enable = s .enable },
-  record {
-    range = range;
-    places = places;
-    slots = slots;
-    count = length-toldFrom s store 0 (s .circuits .count);
-    last = refl;
-    enable = refl;
-    each = λ c listed. rw (getD-toldFrom s store 0 (s .circuits .count) c listed, zero-add c) (stands-told s store long range c listed);
-  },
-)
+in-range-stands s store places slots long range =
+    let n = s .circuits .count in
+    let queues = map (told s store) (numbersFrom 0 n) in (
+      record { queues = queues; last = s .last; enable = s .enable },
+      record {
+        range = range;
+        places = places;
+        slots = slots;
+        count = length-map (numbersFrom 0 n) (told s store) ∙ length-numbersFrom 0 n;
+        last = refl;
+        enable = refl;
+        each =
+            λ c listed.
+            rw (getD-numbersFrom (told s store) (freshQueue noCircuit) 0 n c listed, zero-add c) (stands-told s store long range c listed);
+      },
+    )

@@ -30,27 +30,10 @@ use Rattle.queues.specs.Calls.{Call, offer, block, End, freshEnd, afterC
 use Rattle.queues.specs.Stands.{StandsFor, Stands}
 use Rattle.queues.specs.Sent.{eachOnce}
 use Rattle.queues.specs.PacketsLeft.{LeftCounts, LeftStands}
+use Rattle.queues.proofs.Numbers.{numbersFrom, length-numbersFrom, lower-numbersFrom}
 use Rattle.queues.proofs.StandsCalls.{stands-queues}
 
 -- ---- a queue
-
--- n numbers from d on
-numbersFrom : ℕ → ℕ → List ℕ
-numbersFrom d zero = []
-numbersFrom d (suc n) = d ∷ numbersFrom (suc d) n
-
-length-numbersFrom : (d n : ℕ) → length (numbersFrom d n) ≡ n
-unfolding numbersFrom
-length-numbersFrom d zero = refl
-length-numbersFrom d (suc n) = ap suc (length-numbersFrom (suc d) n)
-
--- a lower one is not among them
-lower-numbersFrom : (d m n : ℕ) → d < m → those (λ i. not (eqb i d)) (numbersFrom m n) ≡ numbersFrom m n
-unfolding numbersFrom those
-lower-numbersFrom d m zero h = refl
-lower-numbersFrom d m (suc n) h =
-    let apart : m ≡ d → ⊥ = omega arith in
-    rw (ne-eqb m d apart) (ap (λ l. m ∷ l) (lower-numbersFrom d (suc m) n (omega arith)))
 
 -- behind one of copies that are alike, the others give no other number
 pub others-alike : (n : ℕ) (x : Copy) (rest : List Copy) → those (λ i. not (eqb i (x .number))) (eachOnce rest) ≡ eachOnce rest

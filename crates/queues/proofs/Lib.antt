@@ -5,6 +5,7 @@ pub mod StandsPick
 pub mod StandsOffer
 pub mod StandsBlock
 pub mod StandsCalls
+pub mod Numbers
 pub mod InRangeStands
 pub mod BlocksAreQueues
 pub mod AtCircuit
