@@ -1,4 +1,5 @@
-/* What the benchmark calls in C: the channel and the serial line in plain C (plain.c), and the depth of a call on the stack (stack.c). */
+/* What the benchmark calls in C: the channel and the serial line in plain C (plain.c), the channel in fast C (fast.c), and the depth of a call on the
+   stack (stack.c). */
 #ifndef AES18_BENCH_H
 #define AES18_BENCH_H
 
@@ -72,6 +73,14 @@ uint32_t plain_framing_read(struct plain_framing *f, const uint8_t *bits, size_t
 uint32_t plain_totals_note(struct plain_totals *t, const struct plain_read *answer);
 uint32_t plain_line_write(const uint8_t *packet, size_t packet_len, uint8_t *line, size_t line_len, uint64_t *written);
 uint32_t plain_line_read(struct plain_line *r, const uint8_t *line, size_t line_len, uint8_t *packet, struct plain_line_answer *answer);
+
+/* Fast C, over the same records. */
+uint32_t fast_sender_block(struct plain_sender *s, const uint8_t *store, size_t store_len, uint64_t n, uint64_t u,
+                           const struct plain_system *system, uint8_t *block, size_t block_len, struct plain_block *answer);
+uint32_t fast_receiver_read(struct plain_receiver *r, uint8_t *store, size_t store_len, const uint8_t *bits, size_t bits_len,
+                            uint64_t from, uint64_t to, struct plain_read *answer);
+uint32_t fast_framing_read(struct plain_framing *f, const uint8_t *bits, size_t bits_len, uint64_t from, uint64_t to, uint8_t *packet,
+                           struct plain_framing_answer *answer);
 
 /* How many bytes of a stack of its own `call` touches. */
 size_t stack_depth(void (*call)(void *), void *given);

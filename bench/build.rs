@@ -10,7 +10,7 @@ fn main() {
     let out = PathBuf::from(env::var_os("OUT_DIR").expect("cargo sets OUT_DIR"));
     let mut archive = Command::new("ar");
     archive.arg("crs").arg(out.join("libbench.a"));
-    for part in ["plain", "stack"] {
+    for part in ["plain", "fast", "stack"] {
         let object = out.join(part).with_extension("o");
         let source = format!("{part}.c");
         let mut compile = Command::new("gcc");

@@ -1,5 +1,5 @@
 """The framer "is to hold no packet or FCS in an array before stuffing" (document 02, ask 2), and none comes back: in what the compiler makes of the sources
-of `sender` and of every crate below it (rt mir), no parameter, result, local or field is an array, whatever its elements, but of circuits and of slots.
+of `sender` and of every crate below it (rt mir), no parameter, result, local or field is an array, whatever its elements, but of circuits and of slots, and the one into which a frame is stuffed to measure it.
 Before that the same is asked of functions that are known to have an array or none.
 """
 import pathlib
@@ -12,6 +12,9 @@ ROOT = pathlib.Path(__file__).resolve().parent.parent
 TOP = "sender"
 # Arrays that hold no packet: a list's circuits, and a sender's slot for each.
 OTHERS = {'(tyArray (tyNamed (pair "%s" lnil)) (lenLit 4))' % name for name in ("packet::Circuit", "offering::Slot")}
+
+# Where a frame is measured, its bits are stuffed into an array: it has the packet and the FCS after stuffing alone.
+MEASURED = {"sender::blocks::fits": "(tyArray (tyInt 8) (lenLit 27))"}
 
 # Functions that have an array, and functions that have none.
 WITH = """
@@ -101,7 +104,8 @@ def held():
         if name not in names or not any(function.startswith(name + "::") for function, _ in functions):
             told.add("no function of %s is looked at" % name)
         for function, text in functions:
-            told.update("%s has the array %s" % (function, array) for array in arrays(text) - OTHERS)
+            others = OTHERS | {MEASURED.get(function)}
+            told.update("%s has the array %s" % (function, array) for array in arrays(text) - others)
     return sorted(told)
 
 

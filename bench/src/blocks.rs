@@ -1,8 +1,8 @@
 //! Block making: a sender is offered messages at four circuits and makes blocks of them.
 
 use crate::noise::Noise;
-use crate::race::Race;
-use crate::sides::{Ask, BlockAnswer, Library, Offer, Plain, Reference, Sender, Side};
+use crate::race::{turns, Race};
+use crate::sides::{Ask, BlockAnswer, Fast, Library, Offer, Plain, Reference, Sender, Side};
 use aes18::{SystemPacket, LONGEST_MESSAGE, SENDER_STORE};
 
 /// The refusal of an offer while an earlier message still has a copy to place.
@@ -155,7 +155,7 @@ fn offer_all(
 pub fn races(noise: &mut Noise) -> [Race<Traffic, Made>; 4] {
     let race = |name, traffic: Traffic| {
         let bits = traffic.n * traffic.systems.len() as u64;
-        let turns = [make::<Library>, make::<Plain>, make::<Reference>];
+        let turns = turns!(make: Library, Plain, Fast, Reference);
         Race::new(name, traffic, bits, turns)
     };
     let telemetry = Traffic::telemetry(noise);

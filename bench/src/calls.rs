@@ -1,8 +1,8 @@
 //! Calls that do no work: what they take is the cost of a call itself, its record taken apart and checked.
 
-use crate::race::Race;
+use crate::race::{turns, Race};
 use crate::reads::{Channel, CIRCUITS};
-use crate::sides::{Ask, Library, Offer, Part, Plain, Receiver, Reference, Sender, Side};
+use crate::sides::{Ask, Fast, Library, Offer, Part, Plain, Receiver, Reference, Sender, Side};
 use aes18::{RECEIVER_STORE, SENDER_STORE};
 use std::hint::black_box;
 
@@ -90,35 +90,19 @@ pub fn races(channel: &Channel) -> [Race<Channel, Given>; 4] {
     [
         race(
             "read, no bits (from = to)",
-            [
-                read_nothing::<Library>,
-                read_nothing::<Plain>,
-                read_nothing::<Reference>,
-            ],
+            turns!(read_nothing: Library, Plain, Fast, Reference),
         ),
         race(
             "read, refused (from above to)",
-            [
-                read_refused::<Library>,
-                read_refused::<Plain>,
-                read_refused::<Reference>,
-            ],
+            turns!(read_refused: Library, Plain, Fast, Reference),
         ),
         race(
             "offer, refused (no such circuit)",
-            [
-                offer_refused::<Library>,
-                offer_refused::<Plain>,
-                offer_refused::<Reference>,
-            ],
+            turns!(offer_refused: Library, Plain, Fast, Reference),
         ),
         race(
             "block, refused (N too small)",
-            [
-                block_refused::<Library>,
-                block_refused::<Plain>,
-                block_refused::<Reference>,
-            ],
+            turns!(block_refused: Library, Plain, Fast, Reference),
         ),
     ]
 }

@@ -1,8 +1,8 @@
 //! The framing alone: a channel's bits are read from body to body, and each packet is taken.
 
-use crate::race::Race;
+use crate::race::{turns, Race};
 use crate::reads::Channel;
-use crate::sides::{Framing, FramingAnswer, FramingSide, Library, Part, Plain};
+use crate::sides::{Fast, Framing, FramingAnswer, FramingSide, Library, Part, Plain};
 use aes18::LONGEST_PACKET;
 
 /// What reading leaves.
@@ -35,9 +35,9 @@ pub fn scan<S: FramingSide>(channel: &Channel, scanned: &mut Scanned) -> Result<
 }
 
 /// The races of the framing, over the channels of the races of reading.
-pub fn races<L>(reading: &[Race<Channel, L>; 4]) -> [Race<Channel, Scanned, 2>; 4] {
-    let turns = [scan::<Library>, scan::<Plain>];
-    reading
-        .each_ref()
-        .map(|race| Race::new(race.name, race.case.clone(), race.count, turns))
+pub fn races<L>(reading: &[Race<Channel, L>; 4]) -> [Race<Channel, Scanned, 3>; 4] {
+    reading.each_ref().map(|race| {
+        let turns = turns!(scan: Library, Plain, Fast);
+        Race::new(race.name, race.case.clone(), race.count, turns)
+    })
 }

@@ -1,7 +1,7 @@
 //! The serial line: packets are written as the frames of a line, and lines are read from packet to packet.
 
 use crate::noise::Noise;
-use crate::race::Race;
+use crate::race::{turns, Race};
 use crate::sides::{Library, Line, LineAnswer, LineSide, Plain};
 use aes18::{LONGEST_LINE_FRAME, LONGEST_PACKET};
 
@@ -82,7 +82,7 @@ pub fn take<S: LineSide>(line: &LineBytes, taken: &mut Taken) -> Result<(), u32>
 /// The races of writing.
 pub fn writing(noise: &mut Noise) -> Result<[Race<Packets, Written, 2>; 2], u32> {
     let race = |name, packets: Packets| {
-        let turns = [write::<Library>, write::<Plain>];
+        let turns = turns!(write: Library, Plain);
         line(&packets).map(|line| Race::new(name, packets, line.len() as u64, turns))
     };
     let random = noise.bytes(PACKETS * LONGEST_PACKET);
@@ -100,7 +100,7 @@ pub fn reading(
 ) -> Result<[Race<LineBytes, Taken, 2>; 2], u32> {
     let race = |name, line: LineBytes| {
         let bytes = line.len() as u64;
-        Race::new(name, line, bytes, [take::<Library>, take::<Plain>])
+        Race::new(name, line, bytes, turns!(take: Library, Plain))
     };
     let clean = line(packets)?;
     let random = noise.bytes(clean.len());

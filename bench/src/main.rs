@@ -1,4 +1,4 @@
-//! The benchmark: the library, plain C and the reference on the same data, side by side.
+//! The benchmark: the library, plain C, fast C and the reference on the same data, side by side.
 
 mod blocks;
 mod calls;
@@ -90,6 +90,7 @@ fn head() -> Result<(), String> {
     say(
         "plain C    bench/plain.c; a record is a struct, checked in every call but for its framing",
     )?;
+    say("fast C     bench/fast.c, by words and tables, on the records of plain C, which lists and offers for it; not timed at noting and the serial line")?;
     say(&format!("           {gcc}, {flags}"))?;
     say("reference  package reference/; an end is a value of its own, not checked; not timed at the framing alone and the serial line")?;
     say(&format!("           {rustc}, --release"))?;
@@ -122,11 +123,14 @@ fn time<C, L: Default + PartialEq, const N: usize>(
     unit: &str,
     races: &mut [Race<C, L, N>],
 ) -> Result<(), String> {
-    table::times_head(title, unit, N)?;
-    for race in races {
+    for (row, race) in races.iter_mut().enumerate() {
+        let sides = race.sides();
+        if row == 0 {
+            table::times_head(title, unit, &sides)?;
+        }
         let best = race.best()?;
         let each = best.map(|nanos| nanos / race.count as f64);
-        table::times(race.name, race.count, &each)?;
+        table::times(race.name, race.count, &sides, &each)?;
     }
     Ok(())
 }

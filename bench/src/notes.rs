@@ -1,8 +1,8 @@
 //! Noting: the answers of a channel's reads are noted in totals, one after the other.
 
-use crate::race::Race;
+use crate::race::{turns, Race};
 use crate::reads::{hear, Channel, Heard};
-use crate::sides::{Library, Plain, ReadAnswer, Reference, Side, Totals};
+use crate::sides::{Library, Plain, ReadAnswer, Reference, Side, Totals, TotalsSide};
 
 /// The answers of a channel's reads.
 pub fn answers<S: Side>(channel: &Channel) -> Result<Vec<ReadAnswer>, u32> {
@@ -18,7 +18,7 @@ pub struct Noted {
 }
 
 /// Notes the answers in empty totals.
-pub fn note<S: Side>(answers: &Vec<ReadAnswer>, noted: &mut Noted) -> Result<(), u32> {
+pub fn note<S: TotalsSide>(answers: &Vec<ReadAnswer>, noted: &mut Noted) -> Result<(), u32> {
     let mut totals = S::Totals::default();
     for answer in answers {
         totals.note(answer)?;
@@ -29,10 +29,10 @@ pub fn note<S: Side>(answers: &Vec<ReadAnswer>, noted: &mut Noted) -> Result<(),
 }
 
 /// The race of noting; `torn` is a torn telemetry channel.
-pub fn races(torn: &Channel) -> Result<[Race<Vec<ReadAnswer>, Noted>; 1], u32> {
+pub fn races(torn: &Channel) -> Result<[Race<Vec<ReadAnswer>, Noted, 3>; 1], u32> {
     let answers = answers::<Library>(torn)?;
     let count = answers.len() as u64;
-    let turns = [note::<Library>, note::<Plain>, note::<Reference>];
+    let turns = turns!(note: Library, Plain, Reference);
     Ok([Race::new(
         "notices of torn telemetry",
         answers,

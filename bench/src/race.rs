@@ -4,14 +4,26 @@ use std::time::Instant;
 
 /// The turns of each side; its best one counts.
 pub const TURNS: usize = 1000;
-/// The sides in the order of all arrays here. A race of two is between the first two.
-pub const SIDES: [&str; 3] = ["library", "plain C", "reference"];
 
 /// A side's turn over a case `C`. What it answers and writes is left in `L`, which is not cleared between turns.
-pub type Turn<C, L> = fn(&C, &mut L) -> Result<(), u32>;
+pub struct Turn<C, L> {
+    pub side: &'static str,
+    pub take: fn(&C, &mut L) -> Result<(), u32>,
+}
+
+/// The turns of some sides, by a function that is generic over the side. The library's is the first.
+macro_rules! turns {
+    ($take:ident: $($side:ident),+) => {
+        [$($crate::race::Turn {
+            side: <$side as $crate::sides::Side>::NAME,
+            take: $take::<$side>,
+        }),+]
+    };
+}
+pub(crate) use turns;
 
 /// A case, the turns of `N` sides over it, and what each left last. `count` says how many bits, bytes or calls a turn has.
-pub struct Race<C, L, const N: usize = 3> {
+pub struct Race<C, L, const N: usize = 4> {
     pub name: &'static str,
     pub case: C,
     pub count: u64,
@@ -26,8 +38,13 @@ impl<C, L: Default + PartialEq, const N: usize> Race<C, L, N> {
             case,
             count,
             turns,
-            left: turns.map(|_| L::default()),
+            left: std::array::from_fn(|_| L::default()),
         }
+    }
+
+    /// The names of the sides.
+    pub fn sides(&self) -> [&'static str; N] {
+        self.turns.each_ref().map(|turn| turn.side)
     }
 
     /// A turn of each side without a clock, an error where one is refused or they leave different things. It is made first, while all buffers are 0.
@@ -54,8 +71,9 @@ impl<C, L: Default + PartialEq, const N: usize> Race<C, L, N> {
     }
 
     fn turn(&mut self, side: usize) -> Result<(), String> {
-        self.turns[side](&self.case, &mut self.left[side])
-            .map_err(|number| format!("{}: {} is refused by {number}", self.name, SIDES[side]))
+        let Turn { side: name, take } = self.turns[side];
+        take(&self.case, &mut self.left[side])
+            .map_err(|number| format!("{}: {name} is refused by {number}", self.name))
     }
 
     fn compare(&self) -> Result<(), String> {
@@ -63,7 +81,7 @@ impl<C, L: Default + PartialEq, const N: usize> Race<C, L, N> {
             None => Ok(()),
             Some(side) => Err(format!(
                 "{}: {} does not give what the library gives",
-                self.name, SIDES[side]
+                self.name, self.turns[side].side
             )),
         }
     }

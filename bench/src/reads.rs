@@ -2,8 +2,8 @@
 
 use crate::blocks::{make, Made, Traffic};
 use crate::noise::Noise;
-use crate::race::Race;
-use crate::sides::{Library, Part, Plain, ReadAnswer, Receiver, Reference, Side};
+use crate::race::{turns, Race};
+use crate::sides::{Fast, Library, Part, Plain, ReadAnswer, Receiver, Reference, Side};
 use aes18::RECEIVER_STORE;
 use aes18_reference::bits::{bits_of, bytes_of};
 
@@ -96,7 +96,7 @@ pub fn hear<S: Side>(channel: &Channel, heard: &mut Heard) -> Result<(), u32> {
 pub fn races(clean: &Channel, noise: &mut Noise) -> Result<[Race<Channel, Heard>; 4], u32> {
     let race = |name, channel: Channel| {
         let bits = channel.bits;
-        let turns = [hear::<Library>, hear::<Plain>, hear::<Reference>];
+        let turns = turns!(hear: Library, Plain, Fast, Reference);
         Race::new(name, channel, bits, turns)
     };
     Ok([

@@ -1,9 +1,11 @@
 //! The sides behind the same calls. A call gives its answer or the number of the documents' refusal.
 
+mod fast;
 mod library;
 mod plain;
 mod reference;
 
+pub use fast::Fast;
 pub use library::Library;
 pub use plain::Plain;
 pub use reference::Reference;
@@ -13,8 +15,14 @@ use std::ops::Range;
 
 /// One of the implementations that are timed.
 pub trait Side {
+    /// What it is called in tables and messages.
+    const NAME: &'static str;
     type Sender: Sender;
     type Receiver: Receiver;
+}
+
+/// A side that has totals too.
+pub trait TotalsSide: Side {
     type Totals: Totals;
 }
 

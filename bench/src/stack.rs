@@ -7,7 +7,7 @@ use crate::notes::{answers, note, Noted};
 use crate::reads::Channel;
 use crate::sides::{
     Ask, BlockAnswer, Framing, FramingAnswer, FramingSide, Line, LineAnswer, LineSide, Offer, Part,
-    ReadAnswer, Receiver, Sender, Side, Totals,
+    ReadAnswer, Receiver, Sender, Side, Totals, TotalsSide,
 };
 use aes18::{LONGEST_PACKET, TOTALS_RECORD};
 use std::cell::Cell;
@@ -57,7 +57,9 @@ thread_local! {
 }
 
 /// The bytes that the deepest of each of these calls touches while the work is done.
-pub fn depths<S: FramingSide + LineSide>(work: Work<'_>) -> Result<[usize; CALLS.len()], u32> {
+pub fn depths<S: TotalsSide + FramingSide + LineSide>(
+    work: Work<'_>,
+) -> Result<[usize; CALLS.len()], u32> {
     DEEPEST.set([0; CALLS.len()]);
     make::<Painted<S>>(work.traffic, &mut Made::default())?;
     let answers = answers::<Painted<S>>(work.channel)?;
@@ -95,8 +97,12 @@ fn touched<F: FnMut()>(mut function: F) -> usize {
 struct Painted<S>(PhantomData<S>);
 
 impl<S: Side> Side for Painted<S> {
+    const NAME: &'static str = S::NAME;
     type Sender = PaintedSender<S::Sender>;
     type Receiver = PaintedReceiver<S::Receiver>;
+}
+
+impl<S: TotalsSide> TotalsSide for Painted<S> {
     type Totals = PaintedTotals<S::Totals>;
 }
 

@@ -1,6 +1,6 @@
 //! What is printed: lines, and tables of times and of bytes.
 
-use crate::race::SIDES;
+use crate::sides::{Fast, Library, Plain, Reference, Side};
 use std::io::{self, Write};
 
 /// Writes a line.
@@ -9,43 +9,51 @@ pub fn say(line: &str) -> Result<(), String> {
         .map_err(|error| format!("the output cannot be written: {error}"))
 }
 
-/// The number of plain C among the sides.
-const PLAIN: usize = 1;
+/// The sides whose ratio is told where both are timed.
+const RATIOS: [[&str; 2]; 3] = [
+    [Library::NAME, Plain::NAME],
+    [Library::NAME, Fast::NAME],
+    [Reference::NAME, Plain::NAME],
+];
 
-/// The head of a table of times of so many sides, of which each is for one of the unit.
-pub fn times_head(title: &str, unit: &str, sides: usize) -> Result<(), String> {
+/// The head of a table of times of these sides, of which each is for one of the unit.
+pub fn times_head(title: &str, unit: &str, sides: &[&str]) -> Result<(), String> {
     let title = format!("{title}, ns per {unit}");
     let mut line = format!("\n{title:36}{:>10}", format!("{unit}s"));
-    for side in &SIDES[..sides] {
+    for side in sides {
         line += &format!("{side:>11}");
     }
-    for side in ratios(sides) {
-        line += &format!("  {}/C", SIDES[side]);
+    for (name, _) in ratios(sides) {
+        line += &format!("  {name}");
     }
     say(&line)
 }
 
-/// A row of times: how much a turn has of the unit, the nanoseconds of the sides for one, and their ratios to plain C.
-pub fn times(name: &str, count: u64, nanos: &[f64]) -> Result<(), String> {
+/// A row of times: how much a turn has of the unit, the nanoseconds of the sides for one, and their ratios.
+pub fn times(name: &str, count: u64, sides: &[&str], nanos: &[f64]) -> Result<(), String> {
     let mut line = format!("{name:36}{count:>10}");
     for nanos in nanos {
         line += &format!("{nanos:>11.2}");
     }
-    for side in ratios(nanos.len()) {
-        let width = SIDES[side].len() + 4;
-        line += &format!("{:>width$.2}", nanos[side] / nanos[PLAIN]);
+    for (name, [one, other]) in ratios(sides) {
+        let width = name.len() + 2;
+        line += &format!("{:>width$.2}", nanos[one] / nanos[other]);
     }
     say(&line)
 }
 
-/// The sides that have a ratio to plain C, of so many.
-fn ratios(sides: usize) -> impl Iterator<Item = usize> {
-    (0..sides).filter(|&side| side != PLAIN)
+/// The ratios that are told of these sides: a name, and the numbers of both among them.
+fn ratios(sides: &[&str]) -> Vec<(String, [usize; 2])> {
+    let number = |name| sides.iter().position(|&side| side == name);
+    let told = RATIOS.iter().filter_map(|&[one, other]| {
+        Some((format!("{one}/{other}"), [number(one)?, number(other)?]))
+    });
+    told.collect()
 }
 
 /// The head of a table of bytes.
 pub fn bytes_head(title: &str) -> Result<(), String> {
-    let [library, plain, _] = SIDES;
+    let [library, plain] = [Library::NAME, Plain::NAME];
     say(&format!("\n{title:46}{library:>11}{plain:>11}"))
 }
 

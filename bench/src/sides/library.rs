@@ -2,7 +2,7 @@
 
 use super::{
     answered, Ask, BlockAnswer, Framing, FramingAnswer, FramingSide, Line, LineAnswer, LineSide,
-    Offer, Part, ReadAnswer, Receiver, Sender, Side, Totals,
+    Offer, Part, ReadAnswer, Receiver, Sender, Side, Totals, TotalsSide,
 };
 use aes18::{
     ffi, FRAMING_RECORD, LINE_RECORD, LONGEST_PACKET, RECEIVER_RECORD, SENDER_RECORD, TOTALS_RECORD,
@@ -11,8 +11,12 @@ use aes18::{
 pub struct Library;
 
 impl Side for Library {
+    const NAME: &'static str = "library";
     type Sender = LibrarySender;
     type Receiver = LibraryReceiver;
+}
+
+impl TotalsSide for Library {
     type Totals = LibraryTotals;
 }
 

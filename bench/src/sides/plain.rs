@@ -2,7 +2,7 @@
 
 use super::{
     answered, Ask, BlockAnswer, Framing, FramingAnswer, FramingSide, Line, LineAnswer, LineSide,
-    Offer, Part, ReadAnswer, Receiver, Sender, Side, Totals,
+    Offer, Part, ReadAnswer, Receiver, Sender, Side, Totals, TotalsSide,
 };
 use aes18::{LONGEST_PACKET, TOTALS_RECORD};
 use std::ptr;
@@ -10,8 +10,12 @@ use std::ptr;
 pub struct Plain;
 
 impl Side for Plain {
+    const NAME: &'static str = "plain C";
     type Sender = PlainSender;
     type Receiver = PlainReceiver;
+}
+
+impl TotalsSide for Plain {
     type Totals = PlainTotals;
 }
 
@@ -56,12 +60,48 @@ pub struct PlainTotals([u32; TOTALS_RECORD / 4]);
 pub struct PlainLine([u8; 3], [u8; 21]);
 
 #[repr(C)]
-struct PlainSystem {
+pub struct PlainSystem {
     enable: u64,
     code: u64,
     info: *const u8,
     info_len: usize,
 }
+
+/// Block making in C, over plain C's record.
+pub type MakeBlock = unsafe extern "C" fn(
+    s: *mut PlainSender,
+    store: *const u8,
+    store_len: usize,
+    n: u64,
+    u: u64,
+    system: *const PlainSystem,
+    block: *mut u8,
+    block_len: usize,
+    answer: *mut BlockAnswer,
+) -> u32;
+
+/// Reading in C, over plain C's record.
+pub type ReadBits = unsafe extern "C" fn(
+    r: *mut PlainReceiver,
+    store: *mut u8,
+    store_len: usize,
+    bits: *const u8,
+    bits_len: usize,
+    from: u64,
+    to: u64,
+    answer: *mut ReadAnswer,
+) -> u32;
+
+/// Reading by a framing in C, over plain C's.
+pub type ReadBody = unsafe extern "C" fn(
+    f: *mut PlainFraming,
+    bits: *const u8,
+    bits_len: usize,
+    from: u64,
+    to: u64,
+    packet: *mut [u8; LONGEST_PACKET],
+    answer: *mut FramingAnswer,
+) -> u32;
 
 extern "C" {
     static plain_sender_size: usize;
@@ -141,7 +181,82 @@ impl Plain {
 
 // SAFETY of the calls below: a record has room for the struct (`record_sizes`), a framing, totals, a line's reader and an answer are laid out as their
 // structs, a packet that is read has room for the longest, each other pointer is of a slice and passed with its length, and nothing that is written
-// overlaps anything else.
+// overlaps anything else. The calls that are given as functions are of plain.c or fast.c.
+
+impl PlainSender {
+    /// Makes a block by one of the functions in C.
+    pub fn block_by(
+        &mut self,
+        make: MakeBlock,
+        store: &[u8],
+        ask: Ask<'_>,
+        block: &mut [u8],
+    ) -> Result<BlockAnswer, u32> {
+        let mut answer = BlockAnswer::default();
+        let system = ask.system.map(|system| PlainSystem {
+            enable: system.enable,
+            code: system.code,
+            info: system.information.as_ptr(),
+            info_len: system.information.len(),
+        });
+        answered(unsafe {
+            make(
+                self,
+                store.as_ptr(),
+                store.len(),
+                ask.n,
+                ask.n,
+                system.as_ref().map_or(ptr::null(), ptr::from_ref),
+                block.as_mut_ptr(),
+                block.len(),
+                &mut answer,
+            )
+        })?;
+        Ok(answer)
+    }
+}
+
+impl PlainReceiver {
+    /// Reads by one of the functions in C.
+    pub fn read_by(
+        &mut self,
+        read: ReadBits,
+        store: &mut [u8],
+        bits: &[u8],
+        part: Part,
+    ) -> Result<ReadAnswer, u32> {
+        let mut answer = ReadAnswer::default();
+        answered(unsafe {
+            read(
+                self,
+                store.as_mut_ptr(),
+                store.len(),
+                bits.as_ptr(),
+                bits.len(),
+                part.from,
+                part.to,
+                &mut answer,
+            )
+        })?;
+        Ok(answer)
+    }
+}
+
+impl PlainFraming {
+    /// Reads by one of the functions in C.
+    pub fn read_by(
+        &mut self,
+        read: ReadBody,
+        bits: &[u8],
+        part: Part,
+        packet: &mut [u8; LONGEST_PACKET],
+    ) -> Result<FramingAnswer, u32> {
+        let mut answer = FramingAnswer::default();
+        let (bits, length) = (bits.as_ptr(), bits.len());
+        answered(unsafe { read(self, bits, length, part.from, part.to, packet, &mut answer) })?;
+        Ok(answer)
+    }
+}
 
 impl Sender for PlainSender {
     fn list(&mut self, list: &[u8]) -> Result<(), u32> {
@@ -164,27 +279,7 @@ impl Sender for PlainSender {
     }
 
     fn block(&mut self, store: &[u8], ask: Ask<'_>, block: &mut [u8]) -> Result<BlockAnswer, u32> {
-        let mut answer = BlockAnswer::default();
-        let system = ask.system.map(|system| PlainSystem {
-            enable: system.enable,
-            code: system.code,
-            info: system.information.as_ptr(),
-            info_len: system.information.len(),
-        });
-        answered(unsafe {
-            plain_sender_block(
-                self,
-                store.as_ptr(),
-                store.len(),
-                ask.n,
-                ask.n,
-                system.as_ref().map_or(ptr::null(), ptr::from_ref),
-                block.as_mut_ptr(),
-                block.len(),
-                &mut answer,
-            )
-        })?;
-        Ok(answer)
+        self.block_by(plain_sender_block, store, ask, block)
     }
 }
 
@@ -194,20 +289,7 @@ impl Receiver for PlainReceiver {
     }
 
     fn read(&mut self, store: &mut [u8], bits: &[u8], part: Part) -> Result<ReadAnswer, u32> {
-        let mut answer = ReadAnswer::default();
-        answered(unsafe {
-            plain_receiver_read(
-                self,
-                store.as_mut_ptr(),
-                store.len(),
-                bits.as_ptr(),
-                bits.len(),
-                part.from,
-                part.to,
-                &mut answer,
-            )
-        })?;
-        Ok(answer)
+        self.read_by(plain_receiver_read, store, bits, part)
     }
 }
 
@@ -218,12 +300,7 @@ impl Framing for PlainFraming {
         part: Part,
         packet: &mut [u8; LONGEST_PACKET],
     ) -> Result<FramingAnswer, u32> {
-        let mut answer = FramingAnswer::default();
-        let (bits, length) = (bits.as_ptr(), bits.len());
-        answered(unsafe {
-            plain_framing_read(self, bits, length, part.from, part.to, packet, &mut answer)
-        })?;
-        Ok(answer)
+        self.read_by(plain_framing_read, bits, part, packet)
     }
 }
 

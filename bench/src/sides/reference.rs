@@ -1,6 +1,8 @@
 //! The reference through its own values, which hold all that an end remembers; no record is packed or checked in a call.
 
-use super::{Ask, BlockAnswer, Offer, Part, ReadAnswer, Receiver, Sender, Side, Totals};
+use super::{
+    Ask, BlockAnswer, Offer, Part, ReadAnswer, Receiver, Sender, Side, Totals, TotalsSide,
+};
 use aes18::TOTALS_RECORD;
 use aes18_reference::calls::{answered_notice, block_answer, read_answer};
 use aes18_reference::{packet, receiver, sender, totals};
@@ -11,8 +13,12 @@ const NO_RECORD: u32 = 14;
 pub struct Reference;
 
 impl Side for Reference {
+    const NAME: &'static str = "reference";
     type Sender = ReferenceSender;
     type Receiver = ReferenceReceiver;
+}
+
+impl TotalsSide for Reference {
     type Totals = ReferenceTotals;
 }
 

@@ -1,17 +1,17 @@
 -- Laws of the bits of bytes: lengths, parts, and that bytes and their bits determine each other.
 use mathlib.Core.Path.{_≡_, refl, sym, ap, _∙_}
 use Prim.Native.Nat.{ℕ, zero, suc, _+_, _-_, _*_, _/_, _%_, _^_, _≤_, _<_}
-use native.Mathlib.Nat.{sub-zero, pow-suc, suc-sub-suc}
+use native.Mathlib.Nat.{add-assoc, sub-zero, pow-suc, suc-sub-suc}
 use native.Mathlib.Omega.{arith}
 use mathlib.Core.Bool.{Bool, true, false}
 use mathlib.Core.List.{List, [], _∷_, _++_, append-assoc, append-nil}
-use lib.ListN.{length, take, drop, getD, replicate, length-append, length-drop}
-use lib.Seq.{take-nil, drop-nil, take-append-add, drop-append-add, take-at, drop-at}
+use lib.ListN.{length, take, drop, getD, set, replicate, length-append, length-drop, length-set, length-replicate, replicate-append-replicate}
+use lib.Seq.{sets, take-nil, drop-nil, take-append-add, drop-append-add, take-at, drop-at}
 use lib.Dec.{eqb}
 use lib.Pow.{pow-pos}
 use borrow.Author.Tests.{eq-eqb, ne-eqb, eqb-true, eqb-false}
 use Rattle.bits.specs.Bits.{odd, lowBits, byteBits, bitsOf, bitValue, numberOf, fillBytes, bytesOf, Bytes}
-use Rattle.bits.proofs.Lists.{drop-append-replicate, fill-take-drop}
+use Rattle.bits.proofs.Lists.{sets-append, sets-runs, sets-front, sets-append-add, drop-append-replicate, fill-take-drop}
 
 -- lengths
 pub length-lowBits : (k n : ℕ) → length (lowBits k n) ≡ k
@@ -56,6 +56,43 @@ unfolding bitsOf
 drop-bitsOf zero bs = refl
 drop-bitsOf (suc n) [] = drop-nil (8 * suc n)
 drop-bitsOf (suc n) (x ∷ bs) = rw (eight-suc x n) (drop-append-add (byteBits x) (bitsOf bs) (8 * n) ∙ drop-bitsOf n bs)
+
+-- a byte stored is its bits written, and so are bytes
+pub bitsOf-set : (s : List ℕ) (i b : ℕ) → i < length s → bitsOf (set s i b) ≡ sets (bitsOf s) (8 * i) (byteBits b)
+unfolding bitsOf
+bitsOf-set [] i b h = absurd (omega arith)
+bitsOf-set (x ∷ s) zero b h =
+    let fits : length (byteBits b) ≤ length (byteBits x ++ bitsOf s) = rw (length-append, length-byteBits b, length-byteBits x) (omega arith) in
+    let same : length (byteBits x) ≡ length (byteBits b) = length-byteBits x ∙ sym (length-byteBits b) in
+    sym (sets-front (byteBits x ++ bitsOf s) (byteBits b) fits ∙ rw (drop-at (byteBits x) (bitsOf s) (length (byteBits b)) same))
+bitsOf-set (x ∷ s) (suc i) b h =
+    rw (eight-suc x i, sets-append-add) (ap (λ (r : List Bool). byteBits x ++ r) (bitsOf-set s i b (omega arith)))
+
+bitsOf-sets : (bs s : List ℕ) (i : ℕ) → i + length bs ≤ length s → bitsOf (sets s i bs) ≡ sets (bitsOf s) (8 * i) (bitsOf bs)
+unfolding bitsOf
+bitsOf-sets [] s i h = refl
+bitsOf-sets (b ∷ bs) s i h =
+    let fits : suc i + length bs ≤ length (set s i b) = rw length-set (omega arith) in
+    let next : 8 * suc i ≡ 8 * i + length (byteBits b) = omega (arith, length-byteBits b) in
+    bitsOf-sets bs (set s i b) (suc i) fits
+    ∙ rw (bitsOf-set s i b (omega arith), next) (sym (sets-append (bitsOf s) (8 * i) (byteBits b) (bitsOf bs)))
+
+-- bytes of one bit
+bitsOf-replicate : (k b : ℕ) (x : Bool) → byteBits b ≡ replicate 8 x → bitsOf (replicate k b) ≡ replicate (8 * k) x
+unfolding bitsOf
+bitsOf-replicate zero b x e = refl
+bitsOf-replicate (suc k) b x e =
+    let n : 8 * suc k ≡ 8 + 8 * k = omega arith in
+    rw (e, bitsOf-replicate k b x e, n) (replicate-append-replicate 8 (8 * k) x)
+
+-- a run in three parts: bits up to a byte's first one, bytes, and bits
+pub bitsOf-run : (s before after : List ℕ) {bytes : List ℕ} (at i k n b : ℕ) (x : Bool) → (at + i) % 8 ≡ 0 → (at + i) / 8 + k ≤ length before
+    → byteBits b ≡ replicate 8 x → bitsOf before ≡ sets (bitsOf s) at (replicate i x) → bytes ≡ sets before ((at + i) / 8) (replicate k b)
+    → bitsOf after ≡ sets (bitsOf bytes) (at + i + 8 * k) (replicate n x) → bitsOf after ≡ sets (bitsOf s) at (replicate (i + 8 * k + n) x)
+bitsOf-run s before after at i k n b x edge room e f g h =
+    let fits : (at + i) / 8 + length (replicate k b) ≤ length before = rw length-replicate room in
+    let first : 8 * ((at + i) / 8) ≡ at + i = omega arith in
+    h ∙ rw (g, bitsOf-sets (replicate k b) before ((at + i) / 8) fits, first, bitsOf-replicate k b x e, f, sets-runs, sets-runs, add-assoc)
 
 -- a number's lowest bit and its half determine it
 pub bitValue-odd : (n : ℕ) → bitValue (odd n) ≡ n % 2

@@ -14,11 +14,14 @@ module _ {ℓ} {A : Type ℓ} where
   sets-append l i [] b = rw add-zero
   sets-append l i (x ∷ a) b = sets-append (set l i x) (suc i) a b ∙ rw (suc-add, add-suc)
 
-  -- a run of one element more
-  pub sets-replicate : (l : List A) (at i : ℕ) (z : A) → set (sets l at (replicate i z)) (at + i) z ≡ sets l at (replicate (i + 1) z)
-  sets-replicate l at i z =
+  -- two runs of one element in turn, and a run of one element more
+  pub sets-runs : (l : List A) (at i k : ℕ) (z : A) → sets (sets l at (replicate i z)) (at + i) (replicate k z) ≡ sets l at (replicate (i + k) z)
+  sets-runs l at i k z =
       sym
-      (rw (← replicate-append-replicate i 1 z) (sets-append l at (replicate i z) (z ∷ []) ∙ rw length-replicate))
+      (rw (← replicate-append-replicate i k z) (sets-append l at (replicate i z) (replicate k z) ∙ rw length-replicate))
+
+  pub sets-replicate : (l : List A) (at i : ℕ) (z : A) → set (sets l at (replicate i z)) (at + i) z ≡ sets l at (replicate (i + 1) z)
+  sets-replicate l at i z = sets-runs l at i 1 z
 
   -- a stretch written right behind x leaves x and what lies behind the stretch
   pub sets-behind : (x y v : List A) → length v ≤ length y → sets (x ++ y) (length x) v ≡ x ++ (v ++ drop (length v) y)

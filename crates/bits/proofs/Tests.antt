@@ -1,5 +1,5 @@
 -- Tests joined by `&&` and `||`: what the whole says of its parts, and the parts of the whole.
-use mathlib.Core.Bool.{Bool, true, false, _&&_, _||_}
+use mathlib.Core.Bool.{Bool, true, false, not, _&&_, _||_}
 use mathlib.Core.Path.{_≡_, refl}
 
 pub and-left : (a b : Bool) → (a && b) ≡ true → a ≡ true
@@ -25,3 +25,16 @@ or-right false b e = e
 pub or-both : (a b : Bool) → a ≡ false → b ≡ false → (a || b) ≡ false
 or-both true b p q = p
 or-both false b p q = q
+
+-- a test under a condition that holds, and one beside a condition that does not
+pub or-then : (a b : Bool) → a ≡ true → (not a || b) ≡ true → b ≡ true
+or-then true b h t = t
+or-then false b h t = cc
+
+pub or-else : (a b : Bool) → a ≡ false → (a || b) ≡ true → b ≡ true
+or-else true b h t = cc
+or-else false b h t = t
+
+pub not-false : (b : Bool) → not b ≡ false → b ≡ true
+not-false true e = refl
+not-false false e = cc

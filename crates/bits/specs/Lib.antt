@@ -1,2 +1,3 @@
--- The definitions of `bits`: user bits in bytes.
+-- The definitions of `bits`: user bits in bytes, and a bit writer.
 pub mod Bits
+pub mod Writer

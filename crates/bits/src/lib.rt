@@ -1,4 +1,4 @@
-// User bits in bytes, lowest first: whether bits are there, get one bit, put one bit, put a run of equal bits. Bytes copied.
+// User bits in bytes, lowest first: whether bits are there, get one bit, put one bit, put a run of equal bits.
 //
 // A contract says what all bits of the buffer are afterwards; since a list of bytes is determined by its bits
 // (`bitsOf-injective` in proofs/Bits.antt), it determines every byte.
@@ -11,6 +11,15 @@ ghost use lib.Dec.{ltb};
 ghost use Rattle.bits.specs.Bits.{byteBits, bitsOf};
 
 pub mod reader;
+pub mod writer;
+
+// The weight of bit k in a number.
+pub fn power(k: usize) -> u32
+    requires { ⌜ k < 32 ⌝ }
+    ensures { λ r. ⌜ r ≡ 2 ^ k ⌝ }
+{
+    1 << k
+}
 
 // Bit `at` of the buffer.
 pub fn get_bit(s: &[u8], at: usize) -> bool
@@ -63,22 +72,40 @@ pub fn put_run(s: &mut [u8], at: usize, n: usize, bit: bool)
     }
 }
 
-// The bytes of src go to the start of dst.
-pub fn copy_in(dst: &mut [u8], src: &[u8])
-    requires { ⌜ length (now src) ≤ length (now dst) ⌝ }
-    ensures { λ r. ⌜ now (dst .exit) ≡ sets (now (dst .entry)) 0 (now (src .entry)) ⌝ }
+// The byte whose eight bits are `bit`.
+fn byte_of(bit: bool) -> u8
+    ensures { λ r. ⌜ byteBits r ≡ replicate 8 bit ⌝ }
+{
+    if bit {
+        return 0xff;
+    }
+    0
+}
+
+// The n bytes from byte `from` on become `byte`.
+fn put_bytes(s: &mut [u8], from: usize, n: usize, byte: u8)
+    requires { ⌜ from + n ≤ length (now s) ⌝ }
+    ensures { λ r. ⌜ now (s .exit) ≡ sets (now (s .entry)) from (replicate n byte) ⌝ }
 {
     let mut k = 0;
-    while k < src.len() {
-        dst[k] = src[k];
+    while k < n {
+        s[from + k] = byte;
         k += 1;
     }
 }
 
-// The bytes of src go to dst from byte `at` on.
-pub fn copy_at(dst: &mut [u8], at: usize, src: &[u8])
-    requires { ⌜ at + length (now src) ≤ length (now dst) ⌝ }
-    ensures { λ r. ⌜ now (dst .exit) ≡ sets (now (dst .entry)) at (now (src .entry)) ⌝ }
+// The same for a run of many bits: those before its first whole byte, the whole bytes, and those behind them.
+pub fn put_long_run(s: &mut [u8], at: usize, n: usize, bit: bool)
+    requires { ⌜ (at + n ≤ 8 * length (now s)) × (at + n < 2 ^ 64) ⌝ }
+    ensures { λ r. ⌜ bitsOf (now (s .exit)) ≡ sets (bitsOf (now (s .entry))) at (replicate n bit) ⌝ }
 {
-    copy_in(&mut dst[at..], src);
+    let before = (8 - at % 8) % 8;
+    if n < before {
+        put_run(s, at, n, bit);
+        return;
+    }
+    let whole = (n - before) / 8;
+    put_run(s, at, before, bit);
+    put_bytes(s, (at + before) / 8, whole, byte_of(bit));
+    put_run(s, at + before + 8 * whole, (n - before) % 8, bit);
 }

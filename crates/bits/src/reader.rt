@@ -1,6 +1,6 @@
 // A bit reader: lent bytes and the number of the next bit, held together. `bit_at` stands above it with plain parameters.
 ghost use mathlib.Core.Path.{_≡_};
-ghost use Prim.Native.Nat.{_+_, _*_, _^_, _<_};
+ghost use Prim.Native.Nat.{_*_, _<_};
 ghost use mathlib.Core.Bool.{false};
 ghost use lib.ListN.{length, getD};
 ghost use Rattle.bits.specs.Bits.{bitsOf};
@@ -26,17 +26,6 @@ impl<'a> BitReader<'a> {
         ensures { λ r. ⌜ r ≡ getD (bitsOf (now (self .entry .bytes))) (self .entry .at) false ⌝ }
     {
         get_bit(self.bytes, self.at)
-    }
-
-    // The reader of the same bytes behind the next bit.
-    pub fn moved(self) -> BitReader<'a>
-        requires { ⌜ self .at + 1 < 2 ^ 64 ⌝ }
-        ensures { λ r. ⌜ (r .bytes ≡ self .entry .bytes) × (r .at ≡ self .entry .at + 1) ⌝ }
-    {
-        BitReader {
-            bytes: self.bytes,
-            at: self.at + 1,
-        }
     }
 }
 

@@ -1,18 +1,16 @@
 -- The laws of the frame check sequence: the register is run over bits one after another, it stays below 2 ^ 16, and the two bytes of
 -- an FCS hold it whole.
-use Prim.Native.Nat.{ℕ, zero, suc, _+_, _-_, _*_, _/_, _%_, _^_, _<_}
+use Prim.Native.Nat.{ℕ, suc, _+_, _*_, _/_, _%_, _^_, _≤_, _<_}
 use native.Mathlib.Nat.{mod-add-div}
 use native.Mathlib.Numerals.{add-one}
 use native.Mathlib.Omega.{arith}
-use mathlib.Core.Bool.{Bool, true, false, not, xor}
+use mathlib.Core.Bool.{Bool, true, false, xor}
 use mathlib.Core.List.{List, [], _∷_, _++_}
-use mathlib.Core.Path.{_≡_, refl}
-use borrow.Author.Tests.{eq-eqb, ne-eqb}
-use lib.Bits.{bitXor, xor-lt}
-use lib.Dec.{eqb}
+use mathlib.Core.Path.{_≡_, refl, sym, _∙_}
+use lib.Bits.{xor-lt}
 use lib.ListN.{length, getD, drop}
 use lib.Seq.{drop-cons}
-use Rattle.bits.specs.Bits.{odd, lowBits, byteBits, bitsOf, Bytes}
+use Rattle.bits.specs.Bits.{odd, byteBits, bitsOf, Bytes}
 use Rattle.fcs.specs.Fcs.{poly, divided, fcsBit, fcsRun, complement, fcsOf, lowFirst}
 
 -- bits in a row, and then more
@@ -31,11 +29,6 @@ pub fcsBit-lt : {r : ℕ} (b : Bool) → r < 2 ^ 16 → fcsBit r b < 2 ^ 16
 unfolding fcsBit
 fcsBit-lt {r} b h = divided-lt (xor (odd r) b) (omega arith)
 
-pub fcsRun-lt : {r : ℕ} (bs : List Bool) → r < 2 ^ 16 → fcsRun r bs < 2 ^ 16
-unfolding fcsRun
-fcsRun-lt [] h = h
-fcsRun-lt (b ∷ bs) h = fcsRun-lt bs (fcsBit-lt b h)
-
 pub fcsOf-lt : (p : List ℕ) → fcsOf p < 2 ^ 16
 unfolding fcsOf complement
 fcsOf-lt p = omega arith
@@ -48,38 +41,17 @@ lowFirst-Bytes n h = (omega arith, (omega arith, tt))
 pub lowFirst-value : (n : ℕ) → n % 256 + 256 * (n / 256) ≡ n
 lowFirst-value n = mod-add-div n 256
 
--- the lowest bits of two numbers differ exactly if the numbers' remainders by 2 do
-xor-digits : (m n : ℕ) → m < 2 → n < 2 → xor (eqb m 1) (eqb n 1) ≡ not (eqb m n)
-unfolding xor
-xor-digits zero zero h k = refl
-xor-digits zero (suc zero) h k = refl
-xor-digits (suc zero) zero h k = refl
-xor-digits (suc zero) (suc zero) h k = refl
-xor-digits zero (suc (suc n)) h k = absurd (omega arith)
-xor-digits (suc zero) (suc (suc n)) h k = absurd (omega arith)
-xor-digits (suc (suc m)) n h k = absurd (omega arith)
-
-xor-odd : (r b : ℕ) → xor (odd r) (odd b) ≡ not (eqb (r % 2) (b % 2))
-unfolding odd
-xor-odd r b = xor-digits (r % 2) (b % 2) (omega arith) (omega arith)
-
--- the register after a number's lowest bit, if the bit is the register's own lowest, and if it is not
-pub fcsBit-same : (r b : ℕ) → r % 2 ≡ b % 2 → fcsBit r (odd b) ≡ r / 2
-unfolding fcsBit divided
-fcsBit-same r b e = rw (xor-odd, eq-eqb (r % 2) (b % 2) e)
-
-pub fcsBit-other : (r b : ℕ) → (r % 2 ≡ b % 2 → ⊥) → fcsBit r (odd b) ≡ bitXor (r / 2) 0x8408
-unfolding fcsBit divided poly
-fcsBit-other r b e = rw (xor-odd, ne-eqb (r % 2) (b % 2) e)
-
--- what is left of a number's w lowest bits, and of a buffer's bytes, begins with the next bit, and with the next byte's bits
-pub fcsRun-lowBits : (w k r b : ℕ) → k < w
-    → fcsRun r (lowBits (w - k) b) ≡ fcsRun (fcsBit r (odd b)) (lowBits (w - (k + 1)) (b / 2))
-unfolding fcsRun lowBits
-fcsRun-lowBits w k r b h = let e : w - k ≡ suc (w - (k + 1)) = omega arith in rw e
-
+-- what is left of a buffer's bytes begins with the next byte's bits
 pub fcsRun-bitsOf : (r : ℕ) (l : List ℕ) (i : ℕ) → i < length l
     → fcsRun r (bitsOf (drop i l)) ≡ fcsRun (fcsRun r (byteBits (getD l i 0))) (bitsOf (drop (i + 1) l))
 unfolding bitsOf
 fcsRun-bitsOf r l i h =
     rw (drop-cons l i 0, add-one) (fcsRun-append r (byteBits (getD l i 0)) (bitsOf (drop (suc i) l)))
+
+-- two bytes from number i on
+pub fcsRun-two : (r : ℕ) (l : List ℕ) (i : ℕ) → i + 2 ≤ length l
+    → fcsRun r (bitsOf (drop i l)) ≡ fcsRun (fcsRun r (byteBits (getD l i 0) ++ byteBits (getD l (i + 1) 0))) (bitsOf (drop (i + 2) l))
+fcsRun-two r l i h =
+    let two : i + 1 + 1 ≡ i + 2 = omega arith in
+    fcsRun-bitsOf r l i (omega arith) ∙ fcsRun-bitsOf (fcsRun r (byteBits (getD l i 0))) l (i + 1) (omega arith)
+    ∙ (λ j. fcsRun (sym (fcsRun-append r (byteBits (getD l i 0)) (byteBits (getD l (i + 1) 0))) j) (bitsOf (drop (two j) l)))

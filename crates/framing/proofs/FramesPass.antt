@@ -9,12 +9,12 @@ use native.Mathlib.Omega.{arith}
 use lib.ListN.{length}
 use borrow.Author.Tests.{lt-ltb, le-leb}
 use Rattle.bits.specs.Bits.{bitsOf, bytesOf, Bytes}
-use Rattle.bits.proofs.Bits.{length-bitsOf, bytesOf-bitsOf, Bytes-append}
+use Rattle.bits.proofs.Bits.{bytesOf-bitsOf, Bytes-append}
 use Rattle.fcs.specs.Fcs.{fcsOf, lowFirst}
 use Rattle.fcs.proofs.Laws.{fcsOf-lt, lowFirst-Bytes}
 use Rattle.hdlc.specs.Frames.{flag, withFcs, frame}
 use Rattle.hdlc.specs.Bodies.{passes, passing, judgeBits}
-use Rattle.hdlc.proofs.WithFcs.{length-withFcs, packet-withFcs, fcsRight-withFcs}
+use Rattle.hdlc.proofs.WithFcs.{length-bits-withFcs, packet-withFcs, fcsRight-withFcs}
 use Rattle.framing.specs.declared.Framing.{Framing}
 use Rattle.framing.specs.Machine.{empty, phaseAfter, run}
 use Rattle.framing.specs.Closings.{atMost168, closings}
@@ -35,7 +35,7 @@ passing-withFcs : (ones : ℕ) (p : List ℕ) → ones < 5 → Bytes p → 2 ≤
     passing ones (bitsOf (withFcs p)) ≡ true
 unfolding passing
 passing-withFcs ones p few h low high =
-    let n : length (bitsOf (withFcs p)) ≡ 8 * (length p + 2) = length-bitsOf (withFcs p) ∙ rw (length-withFcs p) in
+    let n : length (bitsOf (withFcs p)) ≡ 8 * (length p + 2) = length-bits-withFcs p in
     let least : 32 ≤ 8 * (length p + 2) = omega arith in
     let most : 8 * (length p + 2) ≤ 168 = omega arith in
     let whole : 8 * (length p + 2) % 8 ≡ 0 = omega arith in
@@ -57,7 +57,7 @@ pub frame-passes : (f : Framing) (n : ℕ) (p : List ℕ) → Bytes p → 2 ≤ 
 unfolding frame atMost168 phaseAfter
 frame-passes f n p h low high =
     let x : List Bool = bitsOf (withFcs p) in
-    let fits : length x ≤ 168 = omega (arith, length-bitsOf (withFcs p), length-withFcs p) in
+    let fits : length x ≤ 168 = omega (arith, length-bits-withFcs p) in
     rw (run-flag f)
     (closings-stuff-flag x n
     ∙ rw (closed-phaseAfter 0 6 (n + length (frame p ++ flag)) x (omega arith), le-leb (length x) 168 fits)

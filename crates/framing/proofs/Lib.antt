@@ -17,6 +17,8 @@ pub mod RangeExact
 pub mod Scanned
 pub mod ScanFindsFirst
 pub mod ScanInRange
+pub mod Stretches
+pub mod WordsRead
 pub mod Stepping
 pub mod Turns
 pub mod Cutting

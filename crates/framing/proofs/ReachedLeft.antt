@@ -6,7 +6,7 @@ use mathlib.Core.List.{List, [], _∷_, _++_}
 use mathlib.Core.Path.{_≡_, refl, sym, ap, _∙_}
 use native.Mathlib.Omega.{arith}
 use lib.ListN.{replicate}
-use Rattle.hdlc.specs.Stuffing.{stuffFrom, roomAfter, stuff, endOnes}
+use Rattle.hdlc.specs.Stuffing.{stuffFrom, freeAfter, stuff, endOnes}
 use Rattle.hdlc.specs.Frames.{flag}
 use Rattle.hdlc.proofs.Stuffing.{stuffFrom-append}
 use Rattle.framing.specs.declared.Framing.{Framing}
@@ -45,15 +45,15 @@ run-plain : (x : List Bool) → run fresh (flag ++ (stuff x ++ (false ∷ []))) 
 unfolding run stuff
 run-plain x =
     run-stuff x (false ∷ [])
-    ∙ step-body-zero (roomAfter x 4) x (run (empty 2) (stuffFrom x 4)) (InBody-stuffFrom x 4 [] (empty 2) InBody-opened)
+    ∙ step-body-zero (freeAfter x 4) x (run (empty 2) (stuffFrom x 4)) (InBody-stuffFrom x 4 [] (empty 2) InBody-opened)
 
--- the room is what the ones that end the bits leave of five
-roomAfter-endOnes : (z : List Bool) (room n : ℕ) → n % 5 + room ≡ 4 → endOnes z n % 5 + roomAfter z room ≡ 4
-unfolding roomAfter endOnes
-roomAfter-endOnes [] room n e = e
-roomAfter-endOnes (false ∷ z) room n e = roomAfter-endOnes z 4 0 refl
-roomAfter-endOnes (true ∷ z) zero n e = roomAfter-endOnes z 4 (suc n) (omega arith)
-roomAfter-endOnes (true ∷ z) (suc room) n e = roomAfter-endOnes z room (suc n) (omega arith)
+-- the ones free are what those that end the bits leave of five
+freeAfter-endOnes : (z : List Bool) (free n : ℕ) → n % 5 + free ≡ 4 → endOnes z n % 5 + freeAfter z free ≡ 4
+unfolding freeAfter endOnes
+freeAfter-endOnes [] free n e = e
+freeAfter-endOnes (false ∷ z) free n e = freeAfter-endOnes z 4 0 refl
+freeAfter-endOnes (true ∷ z) zero n e = freeAfter-endOnes z 4 (suc n) (omega arith)
+freeAfter-endOnes (true ∷ z) (suc free) n e = freeAfter-endOnes z free (suc n) (omega arith)
 
 -- bits that end in a one, and how many ones end those before it
 record LastOne (x : List Bool) (n m : ℕ) : Type 0 where
@@ -82,10 +82,10 @@ run-body-fifth : (y : List Bool) (f : Framing) → InBody 0 y f → run f (stuff
 unfolding run stuffFrom
 run-body-fifth y f b = step-body-fifth y f b
 
-run-fifth : (z : List Bool) → roomAfter z 4 ≡ 0 → run (empty 2) (stuff (z ++ (true ∷ []))) ≡ framed 4 0 (z ++ (true ∷ []))
+run-fifth : (z : List Bool) → freeAfter z 4 ≡ 0 → run (empty 2) (stuff (z ++ (true ∷ []))) ≡ framed 4 0 (z ++ (true ∷ []))
 unfolding stuff
 run-fifth z e =
-    let b : InBody (roomAfter z 4) z (run (empty 2) (stuffFrom z 4)) = InBody-stuffFrom z 4 [] (empty 2) InBody-opened in
+    let b : InBody (freeAfter z 4) z (run (empty 2) (stuffFrom z 4)) = InBody-stuffFrom z 4 [] (empty 2) InBody-opened in
     rw (stuffFrom-append z (true ∷ []) 4, e)
     (run-append (stuffFrom z 4) (stuffFrom (true ∷ []) 0) (empty 2) ∙ run-body-fifth z (run (empty 2) (stuffFrom z 4)) (rw e at b))
 
@@ -96,9 +96,9 @@ run-fives x h =
     let m : ℕ = endOnes x 0 - 1 in
     let more : endOnes x 0 ≡ suc m = omega arith in
     let l : LastOne x 0 m = lastOne-from x m more in
-    let room : endOnes (l .front) 0 % 5 + roomAfter (l .front) 4 ≡ 4 = roomAfter-endOnes (l .front) 4 0 refl in
+    let free : endOnes (l .front) 0 % 5 + freeAfter (l .front) 4 ≡ 4 = freeAfter-endOnes (l .front) 4 0 refl in
     let rest : endOnes (l .front) 0 ≡ m = l .rest in
-    let full : roomAfter (l .front) 4 ≡ 0 = omega arith in
+    let full : freeAfter (l .front) 4 ≡ 0 = omega arith in
     run-append flag (stuff x) fresh ∙ ap (λ f. run f (stuff x)) (run-flag fresh)
     ∙ ap (λ y. run (empty 2) (stuff y)) (l .split) ∙ run-fifth (l .front) full ∙ ap (framed 4 0) (sym (l .split))
 

@@ -19,12 +19,12 @@ use Rattle.framing.proofs.Reached.{Reached, before, hunting, opened, pl
 -- ---- a flag
 
 -- a zero was read, and so many ones behind it
-record Behind (o : ℕ) (f : Framing) : Type 0 where
-  ones : f .ones ≡ o
-  started : 0 < f .phase
+pub record Behind (o : ℕ) (f : Framing) : Type 0 where
+  pub ones : f .ones ≡ o
+  pub started : 0 < f .phase
 
 -- one more one
-Behind-true : (o : ℕ) (f : Framing) → o < 6 → Behind o f → Behind (suc o) (step f true)
+pub Behind-true : (o : ℕ) (f : Framing) → o < 6 → Behind o f → Behind (suc o) (step f true)
 Behind-true o f l h =
     rw (step-true-more f (h .started) (rw (h .ones) l)) (record { ones = ap suc (h .ones); started = h .started })
 
@@ -43,7 +43,7 @@ Behind-keep f =
     Behind-cond 0 (leb (f .count + length (held f)) 168) _ _ (record { ones = refl; started = omega (arith, phaseAfter-inside (f .ones)) })
     (record { ones = refl; started = omega (arith, phaseAfter-inside (f .ones)) })
 
-Behind-false : (f : Framing) → Behind 0 (step f false)
+pub Behind-false : (f : Framing) → Behind 0 (step f false)
 unfolding step zeroRead
 Behind-false f =
     Behind-cond 0 (eqb (f .phase) 0) (empty 1) _ (Behind-empty 0)

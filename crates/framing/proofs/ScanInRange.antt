@@ -89,7 +89,7 @@ unfolding LeftBy run
 fresh-in-range = left-in-range fresh ([], refl)
 
 -- bits read on from a framing that bits leave
-LeftBy-run : (f : Framing) (bs : List Bool) → LeftBy f → LeftBy (run f bs)
+pub LeftBy-run : (f : Framing) (bs : List Bool) → LeftBy f → LeftBy (run f bs)
 unfolding LeftBy
 LeftBy-run f bs (cs, e) = (cs ++ bs, run-append cs bs fresh ∙ ap (λ g. run g bs) e)
 

@@ -16,18 +16,18 @@ use Rattle.fcs.specs.Fcs.{fcsOf}
 use Rattle.hdlc.proofs.WithFcs.{fcsRight-take}
 use Rattle.framing.specs.declared.Framing.{Framing}
 use Rattle.framing.specs.declared.Check.the-variants.{Packet, Spoilt, Nothing}
-use Rattle.framing.specs.declared.Whole.{Whole}
-use Rattle.framing.specs.Machine.{held, phaseAfter, keep, whole, wholeOf, check}
-use Rattle.framing.specs.Heads.{filled}
+use Rattle.framing.specs.declared.Verdict.{Verdict}
+use Rattle.framing.specs.Machine.{held, phaseAfter, keep, whole, verdictOf, check}
+use Rattle.framing.specs.Heads.{overwritten}
 use Rattle.framing.specs.Range.{allZero, kept, phaseRight, inRange}
 
 -- ---- the bits held back
 
 -- two runs written one behind the other
-pub filled-runs : (old mid new : List ℕ) (at m n : ℕ) (a b : Bool) → length new ≡ length old → Bytes new
+pub overwritten-runs : (old mid new : List ℕ) (at m n : ℕ) (a b : Bool) → length new ≡ length old → Bytes new
     → bitsOf mid ≡ sets (bitsOf old) at (replicate m a) → bitsOf new ≡ sets (bitsOf mid) (at + m) (replicate n b)
-    → new ≡ filled old at (replicate m a ++ replicate n b)
-filled-runs old mid new at m n a b l B p q =
+    → new ≡ overwritten old at (replicate m a ++ replicate n b)
+overwritten-runs old mid new at m n a b l B p q =
     sym (fillBytes-bitsOf new B)
     ∙ rw (l, q, p, sets-append (bitsOf old) at (replicate m a) (replicate n b), length-replicate)
 
@@ -56,7 +56,7 @@ module _ (f : Framing) (p m : ℕ) (hp : p ≡ phaseAfter (f .ones)) (hm : m ≡
 
   -- the bits held back have room
   pub keep-room : (new : List ℕ) → f .count + m + f .ones ≤ 168 → length (f .bits) ≡ 21
-      → new ≡ filled (f .bits) (f .count) (replicate m false ++ replicate (f .ones) true)
+      → new ≡ overwritten (f .bits) (f .count) (replicate m false ++ replicate (f .ones) true)
       → record { phase = p; ones = 0; count = f .count + m + f .ones; bits = new } ≡ keep f
   unfolding keep
   keep-room new h l e = rw (count-held, le-leb _ _ h, held-runs, hp, e, l)
@@ -79,40 +79,40 @@ module _ (f : Framing) (r : ℕ) (three : f .phase ≡ 3) (lo : 32 ≤ f .count)
       rw
       (eq-eqb _ _ three, le-leb _ _ lo, le-leb _ _ hi, eq-eqb _ _ bytes, fcsRight-take (f .count / 8) (f .bits) two fits, is)
 
-  pub wholeOf-right : getD (f .bits) (f .count / 8 - 2) 0 + 256 * getD (f .bits) (f .count / 8 - 2 + 1) 0 ≡ r
-      → Whole.Packet (f .count / 8 - 2) ≡ wholeOf f
-  unfolding wholeOf
-  wholeOf-right e = rw (whole-fcs, eq-eqb _ _ e)
+  pub verdictOf-right : getD (f .bits) (f .count / 8 - 2) 0 + 256 * getD (f .bits) (f .count / 8 - 2 + 1) 0 ≡ r
+      → Verdict.Packet (f .count / 8 - 2) ≡ verdictOf f
+  unfolding verdictOf
+  verdictOf-right e = rw (whole-fcs, eq-eqb _ _ e)
 
-  pub wholeOf-wrong : (getD (f .bits) (f .count / 8 - 2) 0 + 256 * getD (f .bits) (f .count / 8 - 2 + 1) 0 ≡ r → ⊥)
-      → Whole.Broken ≡ wholeOf f
-  unfolding wholeOf
-  wholeOf-wrong e = rw (whole-fcs, ne-eqb _ _ e)
+  pub verdictOf-wrong : (getD (f .bits) (f .count / 8 - 2) 0 + 256 * getD (f .bits) (f .count / 8 - 2 + 1) 0 ≡ r → ⊥)
+      → Verdict.Broken ≡ verdictOf f
+  unfolding verdictOf
+  verdictOf-wrong e = rw (whole-fcs, ne-eqb _ _ e)
 
 -- what a body gives, from whether it passes
-module _ (f : Framing) (w : Whole) (is : w ≡ wholeOf f) where
-  pub check-packet : (n : ℕ) → w ≡ Whole.Packet n → Packet n ≡ check f
-  unfolding wholeOf check
+module _ (f : Framing) (w : Verdict) (is : w ≡ verdictOf f) where
+  pub check-packet : (n : ℕ) → w ≡ Verdict.Packet n → Packet n ≡ check f
+  unfolding verdictOf check
   check-packet n e = go (whole f) (sym is ∙ e)
     where
-      go : (t : Bool) → cond t (Whole.Packet (f .count / 8 - 2)) Whole.Broken ≡ Whole.Packet n
+      go : (t : Bool) → cond t (Verdict.Packet (f .count / 8 - 2)) Verdict.Broken ≡ Verdict.Packet n
           → Packet n ≡ cond t (Packet (f .count / 8 - 2)) (cond (leb 32 (f .count)) Spoilt Nothing)
       go true q = cc
       go false q = cc
 
-  check-broken : w ≡ Whole.Broken → check f ≡ cond (leb 32 (f .count)) Spoilt Nothing
-  unfolding wholeOf check
+  check-broken : w ≡ Verdict.Broken → check f ≡ cond (leb 32 (f .count)) Spoilt Nothing
+  unfolding verdictOf check
   check-broken e = go (whole f) (sym is ∙ e)
     where
-      go : (t : Bool) → cond t (Whole.Packet (f .count / 8 - 2)) Whole.Broken ≡ Whole.Broken
+      go : (t : Bool) → cond t (Verdict.Packet (f .count / 8 - 2)) Verdict.Broken ≡ Verdict.Broken
           → cond t (Packet (f .count / 8 - 2)) (cond (leb 32 (f .count)) Spoilt Nothing) ≡ cond (leb 32 (f .count)) Spoilt Nothing
       go true q = cc
       go false q = refl
 
-  pub check-spoilt : w ≡ Whole.Broken → 32 ≤ f .count → Spoilt ≡ check f
+  pub check-spoilt : w ≡ Verdict.Broken → 32 ≤ f .count → Spoilt ≡ check f
   check-spoilt e h = rw (check-broken e, le-leb _ _ h)
 
-  pub check-nothing : w ≡ Whole.Broken → f .count < 32 → Nothing ≡ check f
+  pub check-nothing : w ≡ Verdict.Broken → f .count < 32 → Nothing ≡ check f
   check-nothing e h = rw (check-broken e, lt-leb _ _ h)
 
 -- ---- the range

@@ -11,7 +11,7 @@ use lib.Seq.{append-snoc}
 use lib.Dec.{eqb}
 use borrow.Author.Tests.{lt-leb, ne-eqb}
 use Rattle.bits.specs.Bits.{odd, lowBits, byteBits}
-use Rattle.hdlc.specs.Stuffing.{stuffFrom, roomAfter, stuff}
+use Rattle.hdlc.specs.Stuffing.{stuffFrom, freeAfter, stuff}
 use Rattle.hdlc.specs.Frames.{flag}
 use Rattle.hdlc.proofs.Ending.{length-flag}
 use Rattle.framing.specs.declared.Framing.{Framing}
@@ -21,14 +21,14 @@ use Rattle.framing.proofs.Framed.{framed, heldBits, framed-empty, phase
 use Rattle.framing.proofs.Runs.{closings-append}
 use Rattle.framing.proofs.Resync.{closings-ones}
 
--- the framing is in a body whose unstuffed bits, kept and held back, are y, and `room` more ones may come before the one
+-- the framing is in a body whose unstuffed bits, kept and held back, are y, and `free` more ones may come before the one
 -- behind which a 0 is dropped
-pub record InBody (room : ℕ) (y : List Bool) (f : Framing) : Type 0 where
+pub record InBody (free : ℕ) (y : List Bool) (f : Framing) : Type 0 where
   pub phase : ℕ
   pub ones : ℕ
   pub kept : List Bool
   pub is : f ≡ framed (suc (suc phase)) ones kept
-  pub few : ones + room ≡ 4
+  pub few : ones + free ≡ 4
   pub bits : kept ++ heldBits (suc (suc phase)) ones ≡ y
 
 -- a flag opens an empty body
@@ -42,7 +42,7 @@ unfolding phaseAfter
 phaseAfter-few o h = let other : o ≡ 5 → ⊥ = omega arith in rw (ne-eqb o 5 other)
 
 -- one more one is held back
-heldBits-suc : (p o : ℕ) → heldBits p (suc o) ≡ heldBits p o ++ (true ∷ [])
+pub heldBits-suc : (p o : ℕ) → heldBits p (suc o) ≡ heldBits p o ++ (true ∷ [])
 unfolding heldBits
 heldBits-suc p o = go (eqb p 3)
   where
@@ -55,11 +55,11 @@ heldBits-suc p o = go (eqb p 3)
     go true = ap (_∷_ false) snoc
     go false = snoc
 
-module _ (room : ℕ) (y : List Bool) (f : Framing) where
+module _ (free : ℕ) (y : List Bool) (f : Framing) where
   -- a one that is not the fifth
-  InBody-one : InBody (suc room) y f → InBody room (y ++ (true ∷ [])) (step f true)
+  InBody-one : InBody (suc free) y f → InBody free (y ++ (true ∷ [])) (step f true)
   InBody-one b =
-      let few : b .ones + suc room ≡ 4 = b .few in
+      let few : b .ones + suc free ≡ 4 = b .few in
       record {
         phase = b .phase;
         ones = suc (b .ones);
@@ -70,9 +70,9 @@ module _ (room : ℕ) (y : List Bool) (f : Framing) where
       }
 
   -- a plain zero: all bits before it are kept, and it is held back
-  pub step-body-zero : InBody room y f → step f false ≡ framed 3 0 y
+  pub step-body-zero : InBody free y f → step f false ≡ framed 3 0 y
   step-body-zero b =
-      let few : b .ones + room ≡ 4 = b .few in
+      let few : b .ones + free ≡ 4 = b .few in
       let p : ℕ = suc (suc (b .phase)) in
       ap (λ g. step g false) (b .is) ∙ step-zero p (b .ones) (b .kept) (omega arith) (omega arith)
       ∙ rw (phaseAfter-few (b .ones) (omega arith), b .bits)
@@ -89,9 +89,9 @@ step-body-fifth y f b =
     ∙ rw (heldBits-suc, ← append-assoc, b .bits, four)
 
 -- the same bits, now in the body
-InBody-zero : (room : ℕ) (y : List Bool) (f : Framing) → InBody room y f → InBody 4 (y ++ (false ∷ [])) (step f false)
+InBody-zero : (free : ℕ) (y : List Bool) (f : Framing) → InBody free y f → InBody 4 (y ++ (false ∷ [])) (step f false)
 unfolding heldBits
-InBody-zero room y f b = record { phase = 1; ones = 0; kept = y; is = step-body-zero room y f b; few = refl; bits = refl }
+InBody-zero free y f b = record { phase = 1; ones = 0; kept = y; is = step-body-zero free y f b; few = refl; bits = refl }
 
 InBody-fifth : (y : List Bool) (f : Framing) → InBody 0 y f → InBody 4 (y ++ (true ∷ [])) (step (step f true) false)
 unfolding heldBits
@@ -99,20 +99,20 @@ InBody-fifth y f b =
     record { phase = 2; ones = 0; kept = y ++ (true ∷ []); is = step-body-fifth y f b; few = refl; bits = append-nil (y ++ (true ∷ [])) }
 
 -- bits written otherwise
-InBody-same : {room : ℕ} {y z : List Bool} {f : Framing} → y ≡ z → InBody room y f → InBody room z f
+InBody-same : {free : ℕ} {y z : List Bool} {f : Framing} → y ≡ z → InBody free y f → InBody free z f
 InBody-same e b = record { phase = b .phase; ones = b .ones; kept = b .kept; is = b .is; few = b .few; bits = b .bits ∙ e }
 
 -- stuffed bits read: the bits before stuffing are there
-pub InBody-stuffFrom : (bs : List Bool) (room : ℕ) (y : List Bool) (f : Framing) → InBody room y f →
-    InBody (roomAfter bs room) (y ++ bs) (run f (stuffFrom bs room))
-unfolding stuffFrom roomAfter run
-InBody-stuffFrom [] room y f b = InBody-same (sym (append-nil y)) b
-InBody-stuffFrom (false ∷ bs) room y f b =
-    InBody-same (append-snoc y false bs) (InBody-stuffFrom bs 4 (y ++ (false ∷ [])) (step f false) (InBody-zero room y f b))
+pub InBody-stuffFrom : (bs : List Bool) (free : ℕ) (y : List Bool) (f : Framing) → InBody free y f →
+    InBody (freeAfter bs free) (y ++ bs) (run f (stuffFrom bs free))
+unfolding stuffFrom freeAfter run
+InBody-stuffFrom [] free y f b = InBody-same (sym (append-nil y)) b
+InBody-stuffFrom (false ∷ bs) free y f b =
+    InBody-same (append-snoc y false bs) (InBody-stuffFrom bs 4 (y ++ (false ∷ [])) (step f false) (InBody-zero free y f b))
 InBody-stuffFrom (true ∷ bs) zero y f b =
     InBody-same (append-snoc y true bs) (InBody-stuffFrom bs 4 (y ++ (true ∷ [])) (step (step f true) false) (InBody-fifth y f b))
-InBody-stuffFrom (true ∷ bs) (suc room) y f b =
-    InBody-same (append-snoc y true bs) (InBody-stuffFrom bs room (y ++ (true ∷ [])) (step f true) (InBody-one room y f b))
+InBody-stuffFrom (true ∷ bs) (suc free) y f b =
+    InBody-same (append-snoc y true bs) (InBody-stuffFrom bs free (y ++ (true ∷ [])) (step f true) (InBody-one free y f b))
 
 -- behind fewer than six ones no bit closes a body
 closings-few : (f : Framing) (n : ℕ) (b : Bool) (bs : List Bool) → f .ones < 6 →
@@ -122,32 +122,32 @@ closings-few f n true bs h = refl
 closings-few f n false bs h = rw (lt-leb 6 (f .ones) h)
 
 -- nor are there six in a body, also behind its next one
-ones-body : (room : ℕ) (y : List Bool) (f : Framing) → InBody room y f → f .ones < 6
-ones-body room y f b =
-    let few : b .ones + room ≡ 4 = b .few in
+ones-body : (free : ℕ) (y : List Bool) (f : Framing) → InBody free y f → f .ones < 6
+ones-body free y f b =
+    let few : b .ones + free ≡ 4 = b .few in
     rw (b .is, ones-framed (suc (suc (b .phase))) (b .ones) (b .kept)) (omega arith)
 
-ones-body-one : (room : ℕ) (y : List Bool) (f : Framing) → InBody room y f → step f true .ones < 6
-ones-body-one room y f b =
-    let few : b .ones + room ≡ 4 = b .few in
+ones-body-one : (free : ℕ) (y : List Bool) (f : Framing) → InBody free y f → step f true .ones < 6
+ones-body-one free y f b =
+    let few : b .ones + free ≡ 4 = b .few in
     rw (b .is, step-one (suc (b .phase)) (b .ones) (b .kept) (omega arith), ones-framed (suc (suc (b .phase))) (suc (b .ones)) (b .kept))
     (omega arith)
 
 -- stuffed bits close nothing
-pub closings-stuffFrom : (bs : List Bool) (room : ℕ) (y : List Bool) (f : Framing) (n : ℕ) → InBody room y f →
-    closings f n (stuffFrom bs room) ≡ []
+pub closings-stuffFrom : (bs : List Bool) (free : ℕ) (y : List Bool) (f : Framing) (n : ℕ) → InBody free y f →
+    closings f n (stuffFrom bs free) ≡ []
 unfolding stuffFrom closings
-closings-stuffFrom [] room y f n b = refl
-closings-stuffFrom (false ∷ bs) room y f n b =
-    closings-few f n false (stuffFrom bs 4) (ones-body room y f b)
-    ∙ closings-stuffFrom bs 4 (y ++ (false ∷ [])) (step f false) (suc n) (InBody-zero room y f b)
+closings-stuffFrom [] free y f n b = refl
+closings-stuffFrom (false ∷ bs) free y f n b =
+    closings-few f n false (stuffFrom bs 4) (ones-body free y f b)
+    ∙ closings-stuffFrom bs 4 (y ++ (false ∷ [])) (step f false) (suc n) (InBody-zero free y f b)
 closings-stuffFrom (true ∷ bs) zero y f n b =
     closings-few f n true (false ∷ stuffFrom bs 4) (ones-body 0 y f b)
     ∙ closings-few (step f true) (suc n) false (stuffFrom bs 4) (ones-body-one 0 y f b)
     ∙ closings-stuffFrom bs 4 (y ++ (true ∷ [])) (step (step f true) false) (suc (suc n)) (InBody-fifth y f b)
-closings-stuffFrom (true ∷ bs) (suc room) y f n b =
-    closings-few f n true (stuffFrom bs room) (ones-body (suc room) y f b)
-    ∙ closings-stuffFrom bs room (y ++ (true ∷ [])) (step f true) (suc n) (InBody-one room y f b)
+closings-stuffFrom (true ∷ bs) (suc free) y f n b =
+    closings-few f n true (stuffFrom bs free) (ones-body (suc free) y f b)
+    ∙ closings-stuffFrom bs free (y ++ (true ∷ [])) (step f true) (suc n) (InBody-one free y f b)
 
 -- ones behind a zero are counted
 pub run-framed-ones : (k p o : ℕ) (x : List Bool) → o + k ≤ 6 → run (framed (suc p) o x) (replicate k true) ≡ framed (suc p) (o + k) x
@@ -164,13 +164,13 @@ unfolding closings closes
 closings-end x n = rw (phase-framed 3 6 x, ones-framed 3 6 x)
 
 -- a flag closes the body
-closings-flag : (room : ℕ) (y : List Bool) (f : Framing) (n : ℕ) → InBody room y f →
+closings-flag : (free : ℕ) (y : List Bool) (f : Framing) (n : ℕ) → InBody free y f →
     closings f n flag ≡ closed (framed 3 6 y) (n + 8) ∷ []
 unfolding flag byteBits lowBits odd
-closings-flag room y f n b =
+closings-flag free y f n b =
     let e : suc (suc n + 6) ≡ n + 8 = omega arith in
-    closings-few f n false (replicate 6 true ++ (false ∷ [])) (ones-body room y f b)
-    ∙ ap (λ g. closings g (suc n) (replicate 6 true ++ (false ∷ []))) (step-body-zero room y f b)
+    closings-few f n false (replicate 6 true ++ (false ∷ [])) (ones-body free y f b)
+    ∙ ap (λ g. closings g (suc n) (replicate 6 true ++ (false ∷ []))) (step-body-zero free y f b)
     ∙ closings-append (replicate 6 true) (false ∷ []) (framed 3 0 y) (suc n)
     ∙ rw (closings-ones 6 (framed 3 0 y) (suc n), run-framed-ones 6 2 0 y (omega arith), closings-end y (suc n + 6), e)
 
@@ -180,7 +180,7 @@ pub closings-stuff-flag : (bs : List Bool) (n : ℕ) →
 unfolding stuff
 closings-stuff-flag bs n =
     let s : List Bool = stuffFrom bs 4 in
-    let b : InBody (roomAfter bs 4) bs (run (empty 2) s) = InBody-stuffFrom bs 4 [] (empty 2) InBody-opened in
+    let b : InBody (freeAfter bs 4) bs (run (empty 2) s) = InBody-stuffFrom bs 4 [] (empty 2) InBody-opened in
     let e : n + length s + 8 ≡ n + length (s ++ flag) = rw (length-append s flag) (omega (arith, length-flag)) in
     closings-append s flag (empty 2) n
-    ∙ rw (closings-stuffFrom bs 4 [] (empty 2) n InBody-opened, closings-flag (roomAfter bs 4) bs (run (empty 2) s) (n + length s) b, e)
+    ∙ rw (closings-stuffFrom bs 4 [] (empty 2) n InBody-opened, closings-flag (freeAfter bs 4) bs (run (empty 2) s) (n + length s) b, e)

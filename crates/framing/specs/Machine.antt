@@ -15,7 +15,7 @@ use Rattle.hdlc.specs.Bodies.{fcsRight}
 use Rattle.framing.specs.declared.Framing.{Framing}
 use Rattle.framing.specs.declared.Check.{Check}
 use Rattle.framing.specs.declared.Check.the-variants.{Packet, Spoilt, Nothing}
-use Rattle.framing.specs.declared.Whole.{Whole}
+use Rattle.framing.specs.declared.Verdict.{Verdict}
 
 -- no bit kept, in a phase
 unfoldable pub empty : ℕ → Framing
@@ -78,8 +78,8 @@ whole f =
     fcsRight (take (f .count / 8) (f .bits))
 
 -- the same as an answer, with the length of the packet
-unfoldable pub wholeOf : Framing → Whole
-wholeOf f = cond (whole f) (Whole.Packet (f .count / 8 - 2)) Whole.Broken
+unfoldable pub verdictOf : Framing → Verdict
+verdictOf f = cond (whole f) (Verdict.Packet (f .count / 8 - 2)) Verdict.Broken
 
 -- the answer of the body check where a body is closed: the length of the packet at the start of `bits`, or why there is none
 unfoldable pub check : Framing → Check

@@ -1,4 +1,4 @@
-// Reading HDLC framing bit by bit: the framing record, one step of it, the check of a closed body, and a scan over lent bytes.
+// Reading HDLC framing: the framing record, one step of it by a bit, the check of a closed body, and a scan over lent bytes, by words where that can be (`at_once`).
 ghost use mathlib.Core.Path.{_≡_};
 ghost use mathlib.Core.Bool.{true, false, cond};
 ghost use mathlib.Core.List.{_++_};
@@ -8,10 +8,12 @@ ghost use lib.ListN.{length, take, drop, replicate};
 ghost use lib.Seq.{slice};
 ghost use Rattle.bits.specs.Bits.{bitsOf};
 ghost use Rattle.hdlc.specs.Stuffing.{endOnes};
-ghost use Rattle.framing.specs.Heads.{filled, joined};
+ghost use Rattle.framing.specs.Heads.{overwritten, framingOf};
 ghost use Rattle.framing.specs.Machine as machine;
 ghost use Rattle.framing.specs.Range as range;
 ghost use Rattle.framing.specs.Scanning as scanning;
+
+mod at_once;
 
 // What is kept between two bits (specs/Machine.antt has the meaning of each field).
 pub struct Framing {
@@ -37,7 +39,7 @@ pub struct Scan {
 }
 
 // Whether a closed body passes, and then the length of its packet.
-enum Whole {
+enum Verdict {
     Packet(usize),
     Broken,
 }
@@ -49,10 +51,22 @@ struct Head {
     count: u8,
 }
 
+// How far bits outside a body were read at once: the ones behind the last zero, and the number of the next bit.
+struct Hunt {
+    ones: u8,
+    at: usize,
+}
+
+// How far bits were read at once: the numbers of the framing then, and the number of the next bit.
+struct Ahead {
+    head: Head,
+    at: usize,
+}
+
 impl Head {
     // The framing of this head and these bits.
     fn framing(self, bits: [u8; 21]) -> Framing
-        ensures { λ r. ⌜ r ≡ joined self bits ⌝ }
+        ensures { λ r. ⌜ r ≡ framingOf self bits ⌝ }
     {
         Framing {
             phase: self.phase,
@@ -64,7 +78,7 @@ impl Head {
 
     // No bit kept, in a phase.
     fn empty(phase: u8, bits: &mut [u8; 21]) -> Head
-        ensures { λ r. ⌜ joined r (now (bits .exit)) ≡ machine.empty phase ⌝ }
+        ensures { λ r. ⌜ framingOf r (now (bits .exit)) ≡ machine.empty phase ⌝ }
     {
         *bits = [0; 21];
         Head {
@@ -76,7 +90,7 @@ impl Head {
 
     // A one read.
     fn one_read(self, bits: &mut [u8; 21]) -> Head
-        ensures { λ r. ⌜ joined r (now (bits .exit)) ≡ machine.oneRead (joined self (now (bits .entry))) ⌝ }
+        ensures { λ r. ⌜ framingOf r (now (bits .exit)) ≡ machine.oneRead (framingOf self (now (bits .entry))) ⌝ }
     {
         if self.phase == 0 {
             return self;
@@ -93,7 +107,7 @@ impl Head {
 
     // A zero read in a body: the bits held back are kept, if there is room, and the new zero is held back.
     fn keep(self, bits: &mut [u8; 21]) -> Head
-        ensures { λ r. ⌜ joined r (now (bits .exit)) ≡ machine.keep (joined self (now (bits .entry))) ⌝ }
+        ensures { λ r. ⌜ framingOf r (now (bits .exit)) ≡ machine.keep (framingOf self (now (bits .entry))) ⌝ }
     {
         let phase = phase_after(self.ones);
         let at = self.count as usize;
@@ -118,7 +132,7 @@ impl Head {
 
     // A zero read.
     fn zero_read(self, bits: &mut [u8; 21]) -> Head
-        ensures { λ r. ⌜ joined r (now (bits .exit)) ≡ machine.zeroRead (joined self (now (bits .entry))) ⌝ }
+        ensures { λ r. ⌜ framingOf r (now (bits .exit)) ≡ machine.zeroRead (framingOf self (now (bits .entry))) ⌝ }
     {
         if self.phase == 0 {
             return Head::empty(1, bits);
@@ -134,7 +148,7 @@ impl Head {
 
     // One more bit read.
     fn step(self, bit: bool, bits: &mut [u8; 21]) -> Head
-        ensures { λ r. ⌜ joined r (now (bits .exit)) ≡ machine.step (joined self (now (bits .entry))) bit ⌝ }
+        ensures { λ r. ⌜ framingOf r (now (bits .exit)) ≡ machine.step (framingOf self (now (bits .entry))) bit ⌝ }
     {
         if bit {
             return self.one_read(bits);
@@ -158,7 +172,7 @@ impl Framing {
 
     // The numbers without the bits.
     fn head(self) -> Head
-        ensures { λ r. ⌜ joined r (self .bits) ≡ self ⌝ }
+        ensures { λ r. ⌜ framingOf r (self .bits) ≡ self ⌝ }
     {
         Head {
             phase: self.phase,
@@ -190,36 +204,36 @@ impl Framing {
     }
 
     // Whether the body that is closed passes.
-    fn whole(self) -> Whole
-        ensures { λ r. ⌜ r ≡ machine.wholeOf self ⌝ }
+    fn verdict(self) -> Verdict
+        ensures { λ r. ⌜ r ≡ machine.verdictOf self ⌝ }
     {
         if self.phase != 3 {
-            return Whole::Broken;
+            return Verdict::Broken;
         }
         let count = self.count as usize;
         if count < 32 {
-            return Whole::Broken;
+            return Verdict::Broken;
         }
         if 168 < count {
-            return Whole::Broken;
+            return Verdict::Broken;
         }
         if count % 8 != 0 {
-            return Whole::Broken;
+            return Verdict::Broken;
         }
         let n = count / 8 - 2;
         let bytes = self.bits;
         let given = (bytes[n] as u16) + 256 * (bytes[n + 1] as u16);
         if given != fcs::fcs(&bytes[..n]) {
-            return Whole::Broken;
+            return Verdict::Broken;
         }
-        Whole::Packet(n)
+        Verdict::Packet(n)
     }
 
     // What the body that is closed gives.
     pub fn check(self) -> Check
         ensures { λ r. ⌜ r ≡ machine.check self ⌝ }
     {
-        let Whole::Packet(n) = self.whole() else {
+        let Verdict::Packet(n) = self.verdict() else {
             if self.count < 32 {
                 return Check::Nothing;
             }
@@ -281,7 +295,18 @@ impl Framing {
         false
     }
 
-    // The bits from number `from` to number `to` read, up to the first body that passes or is spoilt.
+    // Whether this is known to be a framing that bits leave; it is asked only where there are words to read.
+    fn known(self, from: usize, to: usize) -> bool
+        requires { ⌜ from ≤ to ⌝ }
+        ensures { λ r. ⌜ (r ≡ true → range.inRange self ≡ true) ⌝ }
+    {
+        if to - from < 64 {
+            return false;
+        }
+        self.in_range()
+    }
+
+    // The bits from number `from` to number `to` read, up to the first body that passes or is spoilt: words at once where that can be, and else bit by bit.
     pub fn scan(self, bytes: &[u8], from: usize, to: usize) -> Scan
         requires { ⌜ (from ≤ to) × (to ≤ 8 * length (now bytes)) ⌝ }
         ensures { λ r. ⌜ r ≡ scanning.scan self from (slice from to (bitsOf (now (bytes .entry)))) ⌝ }
@@ -289,7 +314,14 @@ impl Framing {
         let mut bits = self.bits;
         let mut head = self.head();
         let mut at = from;
+        let known = self.known(from, to);
         while at < to {
+            let ahead = head.ahead(known, bytes, at, to, &mut bits);
+            head = ahead.head;
+            at = ahead.at;
+            if at == to {
+                continue;
+            }
             let bit = bits::reader::bit_at(bytes, at);
             if head.framing(bits).closes(bit) {
                 let framing = head.framing(bits);
@@ -318,7 +350,7 @@ impl Framing {
 // A number of zeros and then a number of ones, written from bit `at` on.
 fn put_held(bytes: &mut [u8], at: usize, zeros: usize, ones: usize)
     requires { ⌜ (at + zeros + ones ≤ 8 * length (now bytes)) × (at + zeros + ones < 2 ^ 64) ⌝ }
-    ensures { λ r. ⌜ now (bytes .exit) ≡ filled (now (bytes .entry)) at (replicate zeros false ++ replicate ones true) ⌝ }
+    ensures { λ r. ⌜ now (bytes .exit) ≡ overwritten (now (bytes .entry)) at (replicate zeros false ++ replicate ones true) ⌝ }
 {
     bits::put_run(bytes, at, zeros, false);
     bits::put_run(bytes, at + zeros, ones, true);

@@ -23,7 +23,7 @@ pub fn framing_in(bytes: &[u8], at: usize) -> Framing
     ensures { λ r. ⌜ r ≡ framingIn (now (bytes .entry)) at ⌝ }
 {
     let mut kept = [0u8; 21];
-    bits::copy_in(&mut kept, &bytes[at + 3..at + 24]);
+    copying::copy_in(&mut kept, &bytes[at + 3..at + 24]);
     Framing {
         phase: bytes[at],
         ones: bytes[at + 1],
@@ -39,8 +39,8 @@ pub fn put_framing(bytes: &mut [u8], at: usize, framing: Framing)
 {
     let head = [framing.phase, framing.ones, framing.count];
     let kept = framing.bits;
-    bits::copy_at(bytes, at, &head);
-    bits::copy_at(bytes, at + 3, &kept);
+    copying::copy_at(bytes, at, &head);
+    copying::copy_at(bytes, at + 3, &kept);
 }
 
 // What a read stopped at, by number.
@@ -80,6 +80,6 @@ pub fn put_answer(bytes: &mut [u8], check: Check, read: usize)
         0,
         0,
     ];
-    bits::copy_in(bytes, &told);
+    copying::copy_in(bytes, &told);
     put_number(bytes, 8, 8, read);
 }

@@ -1,13 +1,10 @@
--- A flag, the end of a frame and a whole frame, written piece by piece.
+-- The end of a frame and a whole frame, written piece by piece.
 use Prim.Native.Nat.{ℕ, _+_, _/_, _%_}
-use native.Mathlib.Numerals.{add-one, add-seven}
-use native.Mathlib.Omega.{arith}
-use mathlib.Core.Bool.{Bool, true, false}
+use mathlib.Core.Bool.{Bool}
 use mathlib.Core.List.{List, _++_, append-nil, append-assoc}
 use mathlib.Core.Path.{_≡_}
-use lib.ListN.{length, set, replicate}
-use lib.Seq.{sets}
-use Rattle.bits.specs.Bits.{odd, lowBits, byteBits, bitsOf}
+use lib.ListN.{length}
+use Rattle.bits.specs.Bits.{byteBits, bitsOf}
 use Rattle.bits.proofs.Bits.{length-byteBits, bitsOf-append}
 use Rattle.fcs.specs.Fcs.{preset, complement, fcsOf, lowFirst}
 use Rattle.hdlc.specs.Stuffing.{stuff}
@@ -17,21 +14,10 @@ use Rattle.hdlc.specs.declared.Pen.{Pen}
 use Rattle.hdlc.proofs.Stuffing.{stuffFrom-append}
 use Rattle.hdlc.proofs.Writing.{Written-append, Stuffed-Put, Room-front, Room-back, Room-first, Room-next}
 
--- a flag is a 0, six ones and a 0
+-- a flag has eight bits
 pub length-flag : length flag ≡ 8
 unfolding flag
 length-flag = length-byteBits 0x7e
-
-sets-flag : (l : List Bool) (at : ℕ) →
-    sets l at flag ≡ set (sets (set l at false) (at + 1) (replicate 6 true)) (at + 7) false
-unfolding flag byteBits lowBits odd
-sets-flag l at = rw (add-one, add-seven)
-
-pub Written-flag : {old new : List ℕ} {at : ℕ} {a b : List Bool} →
-    a ≡ set (bitsOf old) at false → b ≡ sets a (at + 1) (replicate 6 true) → bitsOf new ≡ set b (at + 7) false →
-    Written old at flag new (at + 8)
-Written-flag {old} {at = at} e f g =
-    record { buffer = cc (e, f, g, sets-flag (bitsOf old) at); behind = omega (arith, length-flag) }
 
 -- the end of a frame: the FCS's low byte, its high byte, and a flag
 abbrev pub low : Pen → List Bool
@@ -64,7 +50,7 @@ pub Written-ending : {old mid new : List ℕ} {p : Pen} {end : ℕ} (pen : Pen) 
 Written-ending pen s w = rw (ending-bytes pen) (Written-append (stuffedBy pen (low pen ++ high pen)) flag (s .written) w)
 
 -- a frame and its flag, from a new pen: the packet, and what ends it
-module _ (packet : List ℕ) {at : ℕ} {pen : Pen} (n : (pen .at ≡ at) × (pen .room ≡ 4) × (pen .fcs ≡ 0xffff)) where
+module _ (packet : List ℕ) {at : ℕ} {pen : Pen} (n : (pen .at ≡ at) × (pen .free ≡ 4) × (pen .fcs ≡ 0xffff)) where
   frame-ending : frame packet ++ flag ≡ stuffedBy pen (bitsOf packet) ++ ending (penAfter pen (bitsOf packet))
   unfolding frame withFcs stuff stuffedBy ending penAfter fcsOf preset
   frame-ending = rw (bitsOf-append, stuffFrom-append, append-assoc, n .1, n .2)

@@ -6,6 +6,8 @@ pub mod OneBit
 pub mod Ending
 pub mod PenAfter
 pub mod InTurn
+pub mod ByteTable
+pub mod ByWriter
 pub mod WithFcs
 pub mod FrameLength
 pub mod StuffedInTwo

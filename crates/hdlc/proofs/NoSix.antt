@@ -1,11 +1,11 @@
--- "No six ones in a row", as a recursive condition: it says of bits the same as that they nowhere hold six ones.
+-- "No six ones in a row", as a recursive condition: bits that meet it nowhere hold six ones.
 use Prim.Native.Nat.{ℕ, zero, suc, _≤_}
 use native.Mathlib.Omega.{arith}
 use mathlib.Core.Bool.{Bool, true, false}
 use mathlib.Core.List.{List, [], _∷_}
 use mathlib.Core.Path.{_≡_, refl}
 use lib.ListN.{replicate}
-use Rattle.bits.proofs.Tests.{or-left, or-right, or-both}
+use Rattle.bits.proofs.Tests.{or-both}
 use Rattle.hdlc.specs.Bodies.{startsWith, holds}
 
 -- no six ones in a row in the bits, where n more ones may come before the next 0
@@ -38,12 +38,6 @@ NoSix-startsWith (true ∷ b) zero h = absurd h
 NoSix-startsWith (true ∷ b) (suc n) h = NoSix-startsWith b n h
 NoSix-startsWith (false ∷ b) n h = refl
 
--- bits that nowhere hold a pattern do not begin with it
-pub holds-startsWith : (p b : List Bool) → holds p b ≡ false → startsWith p b ≡ false
-unfolding holds
-holds-startsWith p [] e = e
-holds-startsWith p (x ∷ b) e = or-left (startsWith p (x ∷ b)) (holds p b) e
-
 -- no six ones in a row: the recursive condition gives the declared one
 pub NoSix-holds : (b : List Bool) → NoSix b 5 → holds (replicate 6 true) b ≡ false
 unfolding holds startsWith
@@ -51,16 +45,3 @@ NoSix-holds [] h = refl
 NoSix-holds (x ∷ b) h =
     or-both (startsWith (replicate 6 true) (x ∷ b)) (holds (replicate 6 true) b) (NoSix-startsWith (x ∷ b) 5 h)
     (NoSix-holds b (NoSix-tail x b h))
-
--- and the other way round
-holds-NoSix-from : (b : List Bool) (n : ℕ) →
-    startsWith (replicate (suc n) true) b ≡ false → holds (replicate 6 true) b ≡ false → NoSix b n
-unfolding NoSix holds startsWith
-holds-NoSix-from [] n s h = tt
-holds-NoSix-from (true ∷ b) zero s h = absurd (let z : _≡_ {A = ℕ} 0 1 = cc in omega arith)
-holds-NoSix-from (true ∷ b) (suc n) s h =
-    holds-NoSix-from b n s (or-right (startsWith (replicate 6 true) (true ∷ b)) (holds (replicate 6 true) b) h)
-holds-NoSix-from (false ∷ b) n s h = holds-NoSix-from b 5 (holds-startsWith (replicate 6 true) b h) h
-
-pub holds-NoSix : (b : List Bool) → holds (replicate 6 true) b ≡ false → NoSix b 5
-holds-NoSix b h = holds-NoSix-from b 5 (holds-startsWith (replicate 6 true) b h) h

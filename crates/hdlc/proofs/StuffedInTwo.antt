@@ -7,26 +7,26 @@ use mathlib.Core.Path.{_≡_, refl, sym, ap, _∙_}
 use lib.ListN.{take, drop, take-append-drop}
 use Rattle.bits.specs.Bits.{odd, lowBits, byteBits, bitsOf}
 use Rattle.bits.proofs.Bits.{bitsOf-append}
-use Rattle.hdlc.specs.Stuffing.{stuffFrom, roomAfter, stuff, endOnes}
+use Rattle.hdlc.specs.Stuffing.{stuffFrom, freeAfter, stuff, endOnes}
 use Rattle.hdlc.specs.Frames.{withFcs, frame}
 use Rattle.hdlc.specs.Writing.{stuffedBy, penAfter}
 use Rattle.hdlc.specs.Cuts.{stuffOn, runLeft, stuffedInTwo, CutBetweenBytes}
 use Rattle.hdlc.specs.declared.Pen.{Pen}
-use Rattle.hdlc.proofs.Stuffing.{stuffFrom-append, roomAfter-endOnes}
+use Rattle.hdlc.proofs.Stuffing.{stuffFrom-append, freeAfter-endOnes}
 
--- bits stuffed on from a run are stuffed with the room that makes four with it
-stuffOn-room : (run room : ℕ) (bits : List Bool) → run + room ≡ 4 → stuffOn run bits ≡ stuffFrom bits room
+-- bits stuffed on from a run are stuffed with as many free as make four with it
+stuffOn-free : (run free : ℕ) (bits : List Bool) → run + free ≡ 4 → stuffOn run bits ≡ stuffFrom bits free
 unfolding stuffOn
-stuffOn-room run room bits e =
-    let f : 4 - run ≡ room = omega arith in
+stuffOn-free run free bits e =
+    let f : 4 - run ≡ free = omega arith in
     ap (stuffFrom bits) f
 
--- so behind a first part, with the room that it leaves
-stuffOn-runLeft : (first rest : List ℕ) → stuffOn (runLeft first) (bitsOf rest) ≡ stuffFrom (bitsOf rest) (roomAfter (bitsOf first) 4)
+-- so behind a first part, with those that it leaves free
+stuffOn-runLeft : (first rest : List ℕ) → stuffOn (runLeft first) (bitsOf rest) ≡ stuffFrom (bitsOf rest) (freeAfter (bitsOf first) 4)
 unfolding runLeft stuff
 stuffOn-runLeft first rest =
-    stuffOn-room (endOnes (stuffFrom (bitsOf first) 4) 0) (roomAfter (bitsOf first) 4) (bitsOf rest)
-    (roomAfter-endOnes (bitsOf first) 4 0 refl)
+    stuffOn-free (endOnes (stuffFrom (bitsOf first) 4) 0) (freeAfter (bitsOf first) 4) (bitsOf rest)
+    (freeAfter-endOnes (bitsOf first) 4 0 refl)
 
 in-two : (first rest : List ℕ) → stuffedInTwo first rest ≡ stuff (bitsOf (first ++ rest))
 unfolding stuffedInTwo stuff
@@ -38,7 +38,7 @@ frame-in-two : (packet : List ℕ) (k : ℕ) → stuffedInTwo (take k (withFcs p
 unfolding frame
 frame-in-two packet k = in-two (take k (withFcs packet)) (drop k (withFcs packet)) ∙ rw take-append-drop
 
-pen-in-two : (pen : Pen) (first rest : List ℕ) → pen .room ≡ 4
+pen-in-two : (pen : Pen) (first rest : List ℕ) → pen .free ≡ 4
     → stuffedBy (penAfter pen (bitsOf first)) (bitsOf rest) ≡ stuffOn (runLeft first) (bitsOf rest)
 unfolding stuffedBy penAfter
 pen-in-two pen first rest e = rw e (sym (stuffOn-runLeft first rest))

@@ -8,58 +8,58 @@ use mathlib.Core.Path.{_≡_, refl, ap}
 use lib.ListN.{length, replicate}
 use lib.Dec.{ltb}
 use borrow.Author.Tests.{lt-ltb}
-use Rattle.hdlc.specs.Stuffing.{stuffFrom, roomAfter, stuff, unstuffFrom, unstuff, endOnes}
+use Rattle.hdlc.specs.Stuffing.{stuffFrom, freeAfter, stuff, unstuffFrom, unstuff, endOnes}
 use Rattle.hdlc.specs.Bodies.{holds}
 use Rattle.hdlc.proofs.NoSix.{NoSix, NoSix-holds}
 
--- the room behind bits and the ones that end them, stuffed, make four, where n ones stand before them
-pub roomAfter-endOnes : (bs : List Bool) (room n : ℕ) → n + room ≡ 4 → endOnes (stuffFrom bs room) n + roomAfter bs room ≡ 4
-unfolding stuffFrom endOnes roomAfter
-roomAfter-endOnes [] room n e = e
-roomAfter-endOnes (false ∷ bs) room n e = roomAfter-endOnes bs 4 0 refl
-roomAfter-endOnes (true ∷ bs) zero n e = roomAfter-endOnes bs 4 0 refl
-roomAfter-endOnes (true ∷ bs) (suc room) n e = roomAfter-endOnes bs room (suc n) (omega arith)
+-- the ones free behind bits and those that end them, stuffed, make four, where n ones stand before them
+pub freeAfter-endOnes : (bs : List Bool) (free n : ℕ) → n + free ≡ 4 → endOnes (stuffFrom bs free) n + freeAfter bs free ≡ 4
+unfolding stuffFrom endOnes freeAfter
+freeAfter-endOnes [] free n e = e
+freeAfter-endOnes (false ∷ bs) free n e = freeAfter-endOnes bs 4 0 refl
+freeAfter-endOnes (true ∷ bs) zero n e = freeAfter-endOnes bs 4 0 refl
+freeAfter-endOnes (true ∷ bs) (suc free) n e = freeAfter-endOnes bs free (suc n) (omega arith)
 
 -- a stuffed body "does not end in five" ones
 pub stuff-no-five-end : (bs : List Bool) → ltb (endOnes (stuff bs) 0) 5 ≡ true
 unfolding stuff
-stuff-no-five-end bs = lt-ltb (endOnes (stuffFrom bs 4) 0) 5 (omega (arith, roomAfter-endOnes bs 4 0 refl))
+stuff-no-five-end bs = lt-ltb (endOnes (stuffFrom bs 4) 0) 5 (omega (arith, freeAfter-endOnes bs 4 0 refl))
 
 -- unstuffing gives the bits back
-unstuffFrom-stuffFrom : (bs : List Bool) (room : ℕ) → unstuffFrom (stuffFrom bs room) (suc room) ≡ bs
+unstuffFrom-stuffFrom : (bs : List Bool) (free : ℕ) → unstuffFrom (stuffFrom bs free) (suc free) ≡ bs
 unfolding stuffFrom unstuffFrom
-unstuffFrom-stuffFrom [] room = refl
-unstuffFrom-stuffFrom (false ∷ bs) room = ap (_∷_ false) (unstuffFrom-stuffFrom bs 4)
+unstuffFrom-stuffFrom [] free = refl
+unstuffFrom-stuffFrom (false ∷ bs) free = ap (_∷_ false) (unstuffFrom-stuffFrom bs 4)
 unstuffFrom-stuffFrom (true ∷ bs) zero = ap (_∷_ true) (unstuffFrom-stuffFrom bs 4)
-unstuffFrom-stuffFrom (true ∷ bs) (suc room) = ap (_∷_ true) (unstuffFrom-stuffFrom bs room)
+unstuffFrom-stuffFrom (true ∷ bs) (suc free) = ap (_∷_ true) (unstuffFrom-stuffFrom bs free)
 
 pub unstuff-stuff : (bs : List Bool) → unstuff (stuff bs) ≡ bs
 unfolding stuff unstuff
 unstuff-stuff bs = unstuffFrom-stuffFrom bs 4
 
 -- bits stuffed piece by piece
-pub stuffFrom-append : (a b : List Bool) (room : ℕ) →
-    stuffFrom (a ++ b) room ≡ stuffFrom a room ++ stuffFrom b (roomAfter a room)
-unfolding stuffFrom roomAfter
-stuffFrom-append [] b room = refl
-stuffFrom-append (false ∷ a) b room = ap (_∷_ false) (stuffFrom-append a b 4)
+pub stuffFrom-append : (a b : List Bool) (free : ℕ) →
+    stuffFrom (a ++ b) free ≡ stuffFrom a free ++ stuffFrom b (freeAfter a free)
+unfolding stuffFrom freeAfter
+stuffFrom-append [] b free = refl
+stuffFrom-append (false ∷ a) b free = ap (_∷_ false) (stuffFrom-append a b 4)
 stuffFrom-append (true ∷ a) b zero = ap (λ s. true ∷ false ∷ s) (stuffFrom-append a b 4)
-stuffFrom-append (true ∷ a) b (suc room) = ap (_∷_ true) (stuffFrom-append a b room)
+stuffFrom-append (true ∷ a) b (suc free) = ap (_∷_ true) (stuffFrom-append a b free)
 
-pub roomAfter-append : (a b : List Bool) (room : ℕ) → roomAfter (a ++ b) room ≡ roomAfter b (roomAfter a room)
-unfolding roomAfter
-roomAfter-append [] b room = refl
-roomAfter-append (false ∷ a) b room = roomAfter-append a b 4
-roomAfter-append (true ∷ a) b zero = roomAfter-append a b 4
-roomAfter-append (true ∷ a) b (suc room) = roomAfter-append a b room
+pub freeAfter-append : (a b : List Bool) (free : ℕ) → freeAfter (a ++ b) free ≡ freeAfter b (freeAfter a free)
+unfolding freeAfter
+freeAfter-append [] b free = refl
+freeAfter-append (false ∷ a) b free = freeAfter-append a b 4
+freeAfter-append (true ∷ a) b zero = freeAfter-append a b 4
+freeAfter-append (true ∷ a) b (suc free) = freeAfter-append a b free
 
 -- "a stuffed body holds no six ones in a row"
-NoSix-stuffFrom : (bs : List Bool) (room : ℕ) → NoSix (stuffFrom bs room) (suc room)
+NoSix-stuffFrom : (bs : List Bool) (free : ℕ) → NoSix (stuffFrom bs free) (suc free)
 unfolding stuffFrom NoSix
-NoSix-stuffFrom [] room = tt
-NoSix-stuffFrom (false ∷ bs) room = NoSix-stuffFrom bs 4
+NoSix-stuffFrom [] free = tt
+NoSix-stuffFrom (false ∷ bs) free = NoSix-stuffFrom bs 4
 NoSix-stuffFrom (true ∷ bs) zero = NoSix-stuffFrom bs 4
-NoSix-stuffFrom (true ∷ bs) (suc room) = NoSix-stuffFrom bs room
+NoSix-stuffFrom (true ∷ bs) (suc free) = NoSix-stuffFrom bs free
 
 pub NoSix-stuff : (bs : List Bool) → NoSix (stuff bs) 5
 unfolding stuff
@@ -69,16 +69,31 @@ pub stuff-no-six : (bs : List Bool) → holds (replicate 6 true) (stuff bs) ≡ 
 stuff-no-six bs = NoSix-holds (stuff bs) (NoSix-stuff bs)
 
 -- "n bits grow by at most n / 5 rounded down"
-length-stuffFrom : (bs : List Bool) (room : ℕ) → room ≤ 4 → 5 * length (stuffFrom bs room) + room ≤ 6 * length bs + 4
+length-stuffFrom : (bs : List Bool) (free : ℕ) → free ≤ 4 → 5 * length (stuffFrom bs free) + free ≤ 6 * length bs + 4
 unfolding stuffFrom
-length-stuffFrom [] room h = omega arith
-length-stuffFrom (false ∷ bs) room h = omega (arith, length-stuffFrom bs 4 (omega arith))
+length-stuffFrom [] free h = omega arith
+length-stuffFrom (false ∷ bs) free h = omega (arith, length-stuffFrom bs 4 (omega arith))
 length-stuffFrom (true ∷ bs) zero h = omega (arith, length-stuffFrom bs 4 (omega arith))
-length-stuffFrom (true ∷ bs) (suc room) h = omega (arith, length-stuffFrom bs room (omega arith))
+length-stuffFrom (true ∷ bs) (suc free) h = omega (arith, length-stuffFrom bs free (omega arith))
 
 pub length-stuff : (bs : List Bool) → length (stuff bs) ≤ length bs + length bs / 5
 unfolding stuff
 length-stuff bs = omega (arith, length-stuffFrom bs 4 (omega arith))
+
+-- no bit is lost, and where at most four ones are free, at most four are behind
+pub stuffFrom-least : (bs : List Bool) (free : ℕ) → length bs ≤ length (stuffFrom bs free)
+unfolding stuffFrom
+stuffFrom-least [] free = omega arith
+stuffFrom-least (false ∷ bs) free = omega (arith, stuffFrom-least bs 4)
+stuffFrom-least (true ∷ bs) zero = omega (arith, stuffFrom-least bs 4)
+stuffFrom-least (true ∷ bs) (suc free) = omega (arith, stuffFrom-least bs free)
+
+pub freeAfter-le : (bs : List Bool) (free : ℕ) → free ≤ 4 → freeAfter bs free ≤ 4
+unfolding freeAfter
+freeAfter-le [] free h = h
+freeAfter-le (false ∷ bs) free h = freeAfter-le bs 4 (omega arith)
+freeAfter-le (true ∷ bs) zero h = freeAfter-le bs 4 (omega arith)
+freeAfter-le (true ∷ bs) (suc free) h = freeAfter-le bs free (omega arith)
 
 -- how many more ones make five behind bits, for unstuffing on from there
 unfoldable pub dueAfter : List Bool → ℕ → ℕ

@@ -8,6 +8,8 @@ use borrow.Author.Tests.{eq-eqb}
 use lib.ListN.{length, take, getD, length-append}
 use lib.Seq.{length-take-le, take-take, getD-take, take-append-seam, getD-append-seam, getD-append-add}
 use lib.Dec.{eqb}
+use Rattle.bits.specs.Bits.{bitsOf}
+use Rattle.bits.proofs.Bits.{length-bitsOf}
 use Rattle.fcs.specs.Fcs.{fcsOf, lowFirst}
 use Rattle.fcs.proofs.Laws.{lowFirst-value}
 use Rattle.hdlc.specs.Frames.{withFcs}
@@ -16,6 +18,9 @@ use Rattle.hdlc.specs.Bodies.{fcsRight, packet}
 pub length-withFcs : (p : List ℕ) → length (withFcs p) ≡ length p + 2
 unfolding withFcs lowFirst
 length-withFcs p = length-append p (lowFirst (fcsOf p))
+
+pub length-bits-withFcs : (p : List ℕ) → length (bitsOf (withFcs p)) ≡ 8 * (length p + 2)
+length-bits-withFcs p = rw (length-bitsOf, length-withFcs)
 
 pub packet-withFcs : (p : List ℕ) → packet (withFcs p) ≡ p
 unfolding packet withFcs

@@ -12,10 +12,10 @@ use lib.Seq.{drop-cons}
 use Rattle.bits.specs.Bits.{odd, lowBits, byteBits, bitsOf}
 use Rattle.bits.proofs.Lists.{sets-append}
 use Rattle.fcs.specs.Fcs.{fcsRun}
-use Rattle.hdlc.specs.Stuffing.{stuffFrom, roomAfter}
+use Rattle.hdlc.specs.Stuffing.{stuffFrom, freeAfter}
 use Rattle.hdlc.specs.Writing.{Room, Written, Put, Stuffed, stuffedBy, penAfter}
 use Rattle.hdlc.specs.declared.Pen.{Pen}
-use Rattle.hdlc.proofs.Stuffing.{stuffFrom-append, roomAfter-append}
+use Rattle.hdlc.proofs.Stuffing.{stuffFrom-append, freeAfter-append}
 
 -- two pieces written in turn are written as one
 pub Written-append : {old mid new : List ℕ} {at between end : ℕ} (a b : List Bool) →
@@ -28,33 +28,33 @@ Written-append {old} {mid} {new} {at} {between} {end} a b v w =
 
 -- the same for pieces that are stuffed
 pub stuffedBy-append : (pen next : Pen) (a b : List Bool) →
-    next .room ≡ roomAfter a (pen .room) → stuffedBy pen (a ++ b) ≡ stuffedBy pen a ++ stuffedBy next b
+    next .free ≡ freeAfter a (pen .free) → stuffedBy pen (a ++ b) ≡ stuffedBy pen a ++ stuffedBy next b
 unfolding stuffedBy
-stuffedBy-append pen next a b e = rw e (stuffFrom-append a b (pen .room))
+stuffedBy-append pen next a b e = rw e (stuffFrom-append a b (pen .free))
 
 pub Put-nil : (buffer : List ℕ) (pen : Pen) → Put buffer pen [] buffer pen
-unfolding stuffedBy stuffFrom roomAfter
-Put-nil buffer pen = record { written = record { buffer = refl; behind = rw add-zero }; room = refl }
+unfolding stuffedBy stuffFrom freeAfter
+Put-nil buffer pen = record { written = record { buffer = refl; behind = rw add-zero }; free = refl }
 
 pub Put-append : {old mid new : List ℕ} {pen between next : Pen} (a b : List Bool) →
     Put old pen a mid between → Put mid between b new next → Put old pen (a ++ b) new next
 Put-append {pen = pen} {between = between} a b s t =
     record {
       written =
-          rw (stuffedBy-append pen between a b (s .room))
+          rw (stuffedBy-append pen between a b (s .free))
           (Written-append (stuffedBy pen a) (stuffedBy between b) (s .written) (t .written));
-      room = cc (s .room, t .room, roomAfter-append a b (pen .room));
+      free = cc (s .free, t .free, freeAfter-append a b (pen .free));
     }
 
 -- what is written, stuffed, with and without the FCS register
 pub Put-Stuffed : {old new : List ℕ} {pen next : Pen} {fcs : ℕ} (bits : List Bool) →
     Put old pen bits new next → fcs ≡ fcsRun (pen .fcs) bits →
-    Stuffed old pen bits new (record { at = next .at; room = next .room; fcs = fcs })
+    Stuffed old pen bits new (record { at = next .at; free = next .free; fcs = fcs })
 unfolding penAfter
 Put-Stuffed bits s e =
     record {
       buffer = s .written .buffer;
-      behind = λ i. record { at = s .written .behind i; room = s .room i; fcs = e i };
+      behind = λ i. record { at = s .written .behind i; free = s .free i; fcs = e i };
     }
 
 pub Stuffed-Put : {old new : List ℕ} {pen next : Pen} (bits : List Bool) →
@@ -63,7 +63,7 @@ unfolding penAfter
 Stuffed-Put bits s =
     record {
       written = record { buffer = s .buffer; behind = ap (λ (p : Pen). p .at) (s .behind) };
-      room = ap (λ (p : Pen). p .room) (s .behind);
+      free = ap (λ (p : Pen). p .free) (s .behind);
     }
 
 pub Stuffed-fcs : {old new : List ℕ} {pen next : Pen} (bits : List Bool) →
@@ -84,13 +84,13 @@ pub Room-first : {l : List ℕ} (pen : Pen) (a b : List Bool) →
     Room l (pen .at) (stuffedBy pen (a ++ b)) → Room l (pen .at) (stuffedBy pen a)
 unfolding stuffedBy
 Room-first pen a b r =
-    Room-front (stuffedBy pen a) (stuffFrom b (roomAfter a (pen .room))) (rw stuffFrom-append at r)
+    Room-front (stuffedBy pen a) (stuffFrom b (freeAfter a (pen .free))) (rw stuffFrom-append at r)
 
 pub Room-next : {old mid : List ℕ} {pen next : Pen} (a b : List Bool) →
     Put old pen a mid next → length mid ≡ length old → Room old (pen .at) (stuffedBy pen (a ++ b)) →
     Room mid (next .at) (stuffedBy next b)
 Room-next {pen = pen} {next = next} a b s e r =
-    Room-back (stuffedBy pen a) (stuffedBy next b) e (s .written .behind) (rw (stuffedBy-append pen next a b (s .room)) at r)
+    Room-back (stuffedBy pen a) (stuffedBy next b) e (s .written .behind) (rw (stuffedBy-append pen next a b (s .free)) at r)
 
 -- what a loop that writes keeps: there is room for what is left, and to write it from here is to write all from the start
 pub record ToGo (old : List ℕ) (pen : Pen) (all : List Bool) (buffer : List ℕ) (here : Pen) (left : List Bool) : Type 0 where

@@ -29,5 +29,5 @@ pub record CutBetweenBytes : Type 0 where
   -- so are they for the bytes of a frame, packet and FCS, cut behind any k of them
   pub frames : (packet : List ℕ) (k : ℕ) → stuffedInTwo (take k (withFcs packet)) (drop k (withFcs packet)) ≡ frame packet
   -- the code's pen, from the start of a frame on: the pen that the first part leaves stuffs the rest on from that run
-  pub pens : (pen : Pen) (first rest : List ℕ) → pen .room ≡ 4
+  pub pens : (pen : Pen) (first rest : List ℕ) → pen .free ≡ 4
       → stuffedBy (penAfter pen (bitsOf first)) (bitsOf rest) ≡ stuffOn (runLeft first) (bitsOf rest)

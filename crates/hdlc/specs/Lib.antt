@@ -3,5 +3,5 @@ pub mod Stuffing
 pub mod Frames
 pub mod Bodies
 pub mod Writing
-pub mod Counting
 pub mod Cuts
+pub mod Chunks

@@ -1,23 +1,24 @@
 -- Zero bit insertion, over bits in the order in which they are sent: "a 0 after every five ones, also when the five end the
 -- frame", and "Unstuffing drops the 0 after each five ones" (document 01, "Frames and bits").
--- Both count down: a run of ones is told by how many more ones may come before the next bit is a stuffed zero.
+-- Both count down. Stuffing tells a run of ones by `free`, how many more ones may come before the one that gets a 0 behind it: 4 behind a 0, and 0
+-- where the next one is the fifth.
 use Prim.Native.Nat.{ℕ, zero, suc}
 use mathlib.Core.Bool.{Bool, true, false}
 use mathlib.Core.List.{List, [], _∷_}
 
--- the bits stuffed, where `room` more ones may come before the one behind which a 0 is put
+-- the bits stuffed, where `free` more ones may come before the one behind which a 0 is put
 unfoldable pub stuffFrom : List Bool → ℕ → List Bool
-stuffFrom [] room = []
-stuffFrom (false ∷ bs) room = false ∷ stuffFrom bs 4
-stuffFrom (true ∷ bs) (suc room) = true ∷ stuffFrom bs room
+stuffFrom [] free = []
+stuffFrom (false ∷ bs) free = false ∷ stuffFrom bs 4
+stuffFrom (true ∷ bs) (suc free) = true ∷ stuffFrom bs free
 stuffFrom (true ∷ bs) zero = true ∷ false ∷ stuffFrom bs 4
 
--- the room behind bits, for going on from the run of ones that they left
-unfoldable pub roomAfter : List Bool → ℕ → ℕ
-roomAfter [] room = room
-roomAfter (false ∷ bs) room = roomAfter bs 4
-roomAfter (true ∷ bs) (suc room) = roomAfter bs room
-roomAfter (true ∷ bs) zero = roomAfter bs 4
+-- how many ones are free behind bits, for going on from the run of ones that they left
+unfoldable pub freeAfter : List Bool → ℕ → ℕ
+freeAfter [] free = free
+freeAfter (false ∷ bs) free = freeAfter bs 4
+freeAfter (true ∷ bs) (suc free) = freeAfter bs free
+freeAfter (true ∷ bs) zero = freeAfter bs 4
 
 -- the bits stuffed from the start of a frame
 unfoldable pub stuff : List Bool → List Bool

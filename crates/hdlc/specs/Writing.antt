@@ -7,7 +7,7 @@ use lib.ListN.{length}
 use lib.Seq.{sets}
 use Rattle.bits.specs.Bits.{bitsOf}
 use Rattle.fcs.specs.Fcs.{fcsRun, complement, lowFirst}
-use Rattle.hdlc.specs.Stuffing.{stuffFrom, roomAfter}
+use Rattle.hdlc.specs.Stuffing.{stuffFrom, freeAfter}
 use Rattle.hdlc.specs.Frames.{flag}
 use Rattle.hdlc.specs.declared.Pen.{Pen}
 
@@ -23,21 +23,21 @@ pub record Written (old : List ℕ) (at : ℕ) (bits : List Bool) (new : List �
 
 -- the bits stuffed on from the run of ones that the pen has behind it
 unfoldable pub stuffedBy : Pen → List Bool → List Bool
-stuffedBy pen bits = stuffFrom bits (pen .room)
+stuffedBy pen bits = stuffFrom bits (pen .free)
 
 -- the pen behind the bits
 unfoldable pub penAfter : Pen → List Bool → Pen
 penAfter pen bits =
     record {
       at = pen .at + length (stuffedBy pen bits);
-      room = roomAfter bits (pen .room);
+      free = freeAfter bits (pen .free);
       fcs = fcsRun (pen .fcs) bits;
     }
 
 -- the bits are written, stuffed, at the pen, and `next` stands behind them, whatever FCS register it holds
 pub record Put (old : List ℕ) (pen : Pen) (bits : List Bool) (new : List ℕ) (next : Pen) : Type 0 where
   pub written : Written old (pen .at) (stuffedBy pen bits) new (next .at)
-  pub room : next .room ≡ roomAfter bits (pen .room)
+  pub free : next .free ≡ freeAfter bits (pen .free)
 
 -- the bits are written, stuffed, at the pen, and `next` is the pen behind them
 pub record Stuffed (old : List ℕ) (pen : Pen) (bits : List Bool) (new : List ℕ) (next : Pen) : Type 0 where

@@ -5,24 +5,27 @@ ghost use Rattle.bits.specs.Bits.{byteBits, bitsOf};
 ghost use Rattle.hdlc.specs.Frames.{flag, frame};
 ghost use Rattle.hdlc.specs.Writing.{Room, Written, Put, Stuffed, stuffedBy, ending};
 
-pub mod counting;
+mod chunks;
 mod cuts;
+
+use bits::writer::BitWriter;
+use chunks::Chunk;
 
 // Where the next bit of a frame goes, how many ones may come before the one behind which a 0 is stuffed, and the FCS register.
 pub struct Pen {
     pub at: usize,
-    pub room: u8,
+    pub free: u8,
     pub fcs: u16,
 }
 
 impl Pen {
     // The pen at the start of a frame.
     pub fn new(at: usize) -> Pen
-        ensures { λ r. ⌜ (r .at ≡ at) × (r .room ≡ 4) × (r .fcs ≡ 0xffff) ⌝ }
+        ensures { λ r. ⌜ (r .at ≡ at) × (r .free ≡ 4) × (r .fcs ≡ 0xffff) ⌝ }
     {
         Pen {
             at: at,
-            room: 4,
+            free: 4,
             fcs: fcs::PRESET,
         }
     }
@@ -34,32 +37,32 @@ fn stuff_bit(buf: &mut [u8], pen: Pen, bit: bool) -> Pen
     ensures { λ r. ⌜ (Put (now (buf .entry)) pen (bit ∷ []) (now (buf .exit)) r) × (r .fcs ≡ pen .fcs) ⌝ }
 {
     let at = pen.at;
-    let room = pen.room;
+    let free = pen.free;
     bits::put_bit(buf, at, bit);
     if !bit {
         return Pen {
             at: at + 1,
-            room: 4,
+            free: 4,
             fcs: pen.fcs,
         };
     }
-    if room == 0 {
+    if free == 0 {
         bits::put_bit(buf, at + 1, false);
         return Pen {
             at: at + 2,
-            room: 4,
+            free: 4,
             fcs: pen.fcs,
         };
     }
     Pen {
         at: at + 1,
-        room: room - 1,
+        free: free - 1,
         fcs: pen.fcs,
     }
 }
 
-// The bits of a byte written at the pen, stuffed, lowest first.
-pub fn stuff_byte(buf: &mut [u8], pen: Pen, byte: u8) -> Pen
+// The bits of a byte written at the pen bit by bit, stuffed, lowest first.
+fn stuff_by_bits(buf: &mut [u8], pen: Pen, byte: u8) -> Pen
     requires { ⌜ Room (now buf) (pen .at) (stuffedBy pen (byteBits byte)) ⌝ }
     ensures { λ r. ⌜ Stuffed (now (buf .entry)) pen (byteBits byte) (now (buf .exit)) r ⌝ }
 {
@@ -73,13 +76,32 @@ pub fn stuff_byte(buf: &mut [u8], pen: Pen, byte: u8) -> Pen
     }
     Pen {
         at: p.at,
-        room: p.room,
+        free: p.free,
         fcs: fcs::fcs_byte(pen.fcs, byte),
     }
 }
 
-// The bits of bytes written at the pen, stuffed.
-pub fn stuff_bytes(buf: &mut [u8], pen: Pen, bytes: &[u8]) -> Pen
+// The bits of a byte written at the pen, stuffed, lowest first: at once, unless the pen is none that a frame leaves.
+pub fn stuff_byte(buf: &mut [u8], pen: Pen, byte: u8) -> Pen
+    requires { ⌜ Room (now buf) (pen .at) (stuffedBy pen (byteBits byte)) ⌝ }
+    ensures { λ r. ⌜ Stuffed (now (buf .entry)) pen (byteBits byte) (now (buf .exit)) r ⌝ }
+{
+    let at = pen.at;
+    let free = pen.free;
+    if 4 < free {
+        return stuff_by_bits(buf, pen, byte);
+    }
+    let chunk = Chunk::of(free, byte);
+    let writer = BitWriter::new(buf, at).put(buf, chunk.len, chunk.value);
+    Pen {
+        at: writer.close(buf),
+        free: chunk.free,
+        fcs: fcs::fcs_byte(pen.fcs, byte),
+    }
+}
+
+// The bits of bytes written at the pen, stuffed, one byte after another.
+fn stuff_in_turn(buf: &mut [u8], pen: Pen, bytes: &[u8]) -> Pen
     requires { ⌜ Room (now buf) (pen .at) (stuffedBy pen (bitsOf (now bytes))) ⌝ }
     ensures { λ r. ⌜ Stuffed (now (buf .entry)) pen (bitsOf (now (bytes .entry))) (now (buf .exit)) r ⌝ }
 {
@@ -92,15 +114,44 @@ pub fn stuff_bytes(buf: &mut [u8], pen: Pen, bytes: &[u8]) -> Pen
     p
 }
 
+// The bits of bytes written at the pen, stuffed: with one bit writer, unless the pen is none that a frame leaves.
+pub fn stuff_bytes(buf: &mut [u8], pen: Pen, bytes: &[u8]) -> Pen
+    requires { ⌜ Room (now buf) (pen .at) (stuffedBy pen (bitsOf (now bytes))) ⌝ }
+    ensures { λ r. ⌜ Stuffed (now (buf .entry)) pen (bitsOf (now (bytes .entry))) (now (buf .exit)) r ⌝ }
+{
+    let at = pen.at;
+    let mut free = pen.free;
+    if 4 < free {
+        return stuff_in_turn(buf, pen, bytes);
+    }
+    if bytes.len() == 0 {
+        return pen;
+    }
+    let mut fcs = pen.fcs;
+    let mut writer = BitWriter::new(buf, at);
+    let mut i: usize = 0;
+    while i < bytes.len() {
+        let byte = bytes[i];
+        let chunk = Chunk::of(free, byte);
+        writer = writer.put(buf, chunk.len, chunk.value);
+        free = chunks::free_behind(free, byte);
+        fcs = fcs::fcs_byte(fcs, byte);
+        i += 1;
+    }
+    Pen {
+        at: writer.close(buf),
+        free: free,
+        fcs: fcs,
+    }
+}
+
 // A flag written at bit `at`.
 pub fn put_flag(buf: &mut [u8], at: usize) -> usize
     requires { ⌜ Room (now buf) at flag ⌝ }
     ensures { λ r. ⌜ Written (now (buf .entry)) at flag (now (buf .exit)) r ⌝ }
 {
-    bits::put_bit(buf, at, false);
-    bits::put_run(buf, at + 1, 6, true);
-    bits::put_bit(buf, at + 7, false);
-    at + 8
+    let writer = BitWriter::new(buf, at).put(buf, 8, 0x7e);
+    writer.close(buf)
 }
 
 // The end of a frame written at the pen: the FCS of what the pen has written, low byte first, and a flag.

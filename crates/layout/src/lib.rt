@@ -117,7 +117,7 @@ pub fn put_packet(bytes: &mut [u8], frame: [u8; 21], n: usize)
     requires { ⌜ (n ≤ packetLength) × (packetLength ≤ length (now bytes)) ⌝ }
     ensures { λ r. ⌜ now (bytes .exit) ≡ sets (now (bytes .entry)) 0 (take n frame) ⌝ }
 {
-    bits::copy_in(bytes, &frame[..n]);
+    copying::copy_in(bytes, &frame[..n]);
 }
 
 // The number of an answer.

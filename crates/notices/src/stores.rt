@@ -40,7 +40,7 @@ fn write_part(store: &mut [u8], circuit: usize, t: Slot, p: &[u8])
     let start = packet::REGION * circuit;
     let at = place_of(t, p);
     let part = headers::part_of(p);
-    bits::copy_at(&mut store[start..], at, part);
+    copying::copy_at(&mut store[start..], at, part);
 }
 
 // The store after a circuit's packet.
@@ -65,7 +65,7 @@ fn write_system(store: &mut [u8], p: &[u8])
     ensures { λ r. ⌜ now (store .exit) ≡ sets (now (store .entry)) systemPlace (information (now (p .entry))) ⌝ }
 {
     let information = packets::information_of(p);
-    bits::copy_at(store, SYSTEM, information);
+    copying::copy_at(store, SYSTEM, information);
 }
 
 // What the notice of a packet writes, where the slots were these.

@@ -170,7 +170,7 @@ impl Sender {
             };
         }
         let start = Sender::REGION * circuit;
-        bits::copy_in(&mut store[start..], message);
+        copying::copy_in(&mut store[start..], message);
         Offered {
             answer: Answer::Accepted,
             sender: self.offered(circuit, priority, repetition, message),

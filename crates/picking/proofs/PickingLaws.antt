@@ -1,85 +1,22 @@
--- Picking and serving: picking step by step; what is known of the circuit that is picked; and that serving it
+-- Picking and serving: what is known of the circuit that is picked; that it is the one of the highest rank; and that serving it
 -- leaves a record in range with one copy less to place.
 use mathlib.Core.Path.{_≡_, refl, ap, _∙_}
-use Prim.Native.Nat.{ℕ, zero, suc, _+_, _-_, _%_, _≤_, _<_}
+use Prim.Native.Nat.{ℕ, zero, suc, _+_, _-_, _*_, _%_, _≤_, _<_}
 use native.Mathlib.Nat.{suc-mul}
 use native.Mathlib.Omega.{arith}
-use mathlib.Core.Bool.{Bool, true, false, cond, _&&_}
+use mathlib.Core.Bool.{Bool, true, false, cond}
 use mathlib.Core.List.{List, [], _∷_}
 use mathlib.Core.Option.{Option, none, some}
-use lib.ListN.{length, drop, length-set}
+use lib.ListN.{length, length-set}
 use lib.Dec.{ltb, eqb}
-use borrow.Author.Tests.{ltb-true, ltb-false, eqb-true, lt-ltb, le-ltb}
+use borrow.Author.Tests.{ltb-true, ltb-false, eqb-true, eqb-false, lt-ltb, le-ltb, eq-eqb}
 use Rattle.packet.specs.Messages.{packets}
 use Rattle.offering.specs.declared.Slot.{Slot}
 use Rattle.offering.specs.declared.Sender.{Sender}
 use Rattle.offering.specs.Record.{slotAt, pending, slotInRange, inRange}
 use Rattle.offering.proofs.Ranges.{and-elim, SlotFacts, slotInRange-facts, facts-slotInRange, inRange-facts, facts-inRange, slotsInRange-set, slotInRange-slotAt}
 use Rattle.picking.specs.Picking.{enabled, waitsAt, goingRound, firstWaiting, orElse, pickFrom, pick, copyPlaced, packetPlaced, advanced, served, copiesWaiting}
-
--- ---- picking step by step, as the code goes
-
--- `waitsAt` at a number that is not listed, and at one that is
-pub waitsAt-unlisted : (s : Sender) (p c : ℕ) → s .circuits .count ≤ c → waitsAt s p c ≡ false
-unfolding waitsAt
-waitsAt-unlisted s p c h = rw (le-ltb c (s .circuits .count) h)
-
-pub waitsAt-listed : (s : Sender) (p c : ℕ) → c < s .circuits .count → waitsAt s p c ≡ (pending (slotAt s c) && eqb (slotAt s c .priority) p)
-unfolding waitsAt
-waitsAt-listed s p c h = rw (lt-ltb c (s .circuits .count) h)
-
--- the next number going round: a copy waits there, or not
-firstWaiting-step : (s : Sender) (p i : ℕ) → i < 4
-    → firstWaiting s p (drop i (goingRound (s .last)))
-    ≡ cond (waitsAt s p ((s .last + (i + 1)) % 4)) (some ((s .last + (i + 1)) % 4)) (firstWaiting s p (drop (i + 1) (goingRound (s .last))))
-unfolding firstWaiting goingRound
-firstWaiting-step s p zero h = refl
-firstWaiting-step s p (suc zero) h = refl
-firstWaiting-step s p (suc (suc zero)) h = refl
-firstWaiting-step s p (suc (suc (suc zero))) h = refl
-firstWaiting-step s p (suc (suc (suc (suc i)))) h = absurd (omega arith)
-
-pub firstWaiting-here : (s : Sender) (p i : ℕ) → i < 4 → waitsAt s p ((s .last + (i + 1)) % 4) ≡ true
-    → firstWaiting s p (drop i (goingRound (s .last))) ≡ some ((s .last + (i + 1)) % 4)
-firstWaiting-here s p i h e = firstWaiting-step s p i h ∙ rw e
-
-pub firstWaiting-later : (s : Sender) (p i : ℕ) → i < 4 → waitsAt s p ((s .last + (i + 1)) % 4) ≡ false
-    → firstWaiting s p (drop i (goingRound (s .last))) ≡ firstWaiting s p (drop (i + 1) (goingRound (s .last)))
-firstWaiting-later s p i h e = firstWaiting-step s p i h ∙ rw e
-
--- the priorities below one, from high to low
-unfoldable pub below : ℕ → List ℕ
-below zero = []
-below (suc p) = p ∷ below p
-
--- the next priority
-pickFrom-step : (s : Sender) (enable p : ℕ) → 0 < p
-    → pickFrom s enable (below p)
-    ≡ cond (enabled enable (p - 1)) (orElse (firstWaiting s (p - 1) (goingRound (s .last))) (pickFrom s enable (below (p - 1))))
-    (pickFrom s enable (below (p - 1)))
-unfolding pickFrom below
-pickFrom-step s enable zero h = absurd (omega arith)
-pickFrom-step s enable (suc p) h =
-    let e : suc p - 1 ≡ p = omega arith in
-    rw e
-
--- it is not enabled, or has a first circuit, or has none
-module _ (s : Sender) (enable p : ℕ) (h : 0 < p) where
-  pub pickFrom-disabled : enabled enable (p - 1) ≡ false → pickFrom s enable (below p) ≡ pickFrom s enable (below (p - 1))
-  pickFrom-disabled e = pickFrom-step s enable p h ∙ rw e
-
-  pub pickFrom-some : (c : ℕ) → enabled enable (p - 1) ≡ true → firstWaiting s (p - 1) (goingRound (s .last)) ≡ some c → pickFrom s enable (below p) ≡ some c
-  unfolding orElse
-  pickFrom-some c e f = pickFrom-step s enable p h ∙ rw (e, f)
-
-  pub pickFrom-none : enabled enable (p - 1) ≡ true → firstWaiting s (p - 1) (goingRound (s .last)) ≡ none
-      → pickFrom s enable (below p) ≡ pickFrom s enable (below (p - 1))
-  unfolding orElse
-  pickFrom-none e f = pickFrom-step s enable p h ∙ rw (e, f)
-
-pub pickFrom-pick : (s : Sender) (enable : ℕ) → pickFrom s enable (below 4) ≡ pick s enable
-unfolding pick below
-pickFrom-pick s enable = refl
+use Rattle.picking.specs.Picked.{waitsEnabled, rank}
 
 -- ---- the circuit that is picked
 
@@ -141,6 +78,149 @@ pick-lt s enable c e p =
     let f = inRange-facts s e in
     let g = pick-waits s enable c p in
     omega arith
+
+-- ---- ranks: the circuit of the highest rank is picked
+
+module _ (s : Sender) (enable c : ℕ) where
+  -- the rank, test by test
+  pub rank-unlisted : s .circuits .count ≤ c → rank s enable c ≡ 0
+  unfolding rank waitsEnabled
+  rank-unlisted h = rw (le-ltb c (s .circuits .count) h)
+
+  module _ (h : c < s .circuits .count) where
+    pub rank-disabled : enabled enable (slotAt s c .priority) ≡ false → rank s enable c ≡ 0
+    unfolding rank waitsEnabled
+    rank-disabled off = rw (lt-ltb c (s .circuits .count) h, off)
+
+    pub rank-none : enabled enable (slotAt s c .priority) ≡ true → pending (slotAt s c) ≡ false → rank s enable c ≡ 0
+    unfolding rank waitsEnabled
+    rank-none on w = rw (lt-ltb c (s .circuits .count) h, on, w)
+
+    pub rank-waits : enabled enable (slotAt s c .priority) ≡ true → pending (slotAt s c) ≡ true
+        → rank s enable c ≡ 4 * slotAt s c .priority + 4 - (c + 3 - s .last) % 4
+    unfolding rank waitsEnabled
+    rank-waits on w = rw (lt-ltb c (s .circuits .count) h, on, w)
+
+  -- at a circuit that has one a copy waits
+  rank-picked : 0 < rank s enable c → Picked s enable c
+  unfolding rank waitsEnabled
+  rank-picked h = go (waitsEnabled s enable c) refl
+    where
+      go : (t : Bool) → waitsEnabled s enable c ≡ t → Picked s enable c
+      go true e =
+          let (e₂, pending) = and-elim _ _ e in
+          let (count, enabled) = and-elim _ _ e₂ in
+          record { count = ltb-true _ _ count; pending = pending; enabled = enabled }
+      go false e =
+          let z : rank s enable c ≡ 0 = rw e in
+          absurd (omega arith)
+
+-- the priorities below one, from high to low
+unfoldable below : ℕ → List ℕ
+below zero = []
+below (suc p) = p ∷ below p
+
+module _ (s : Sender) (enable : ℕ) where
+  -- no copy of an enabled priority waits where the rank is below the one that it would have
+  waitsAt-below : (p c : ℕ) → enabled enable p ≡ true → rank s enable c < 4 * p + 4 - (c + 3 - s .last) % 4 → waitsAt s p c ≡ false
+  waitsAt-below p c on h = go (waitsAt s p c) refl
+    where
+      go : (t : Bool) → waitsAt s p c ≡ t → waitsAt s p c ≡ false
+      go true e =
+          let f = waitsAt-facts s p c e in
+          let r = rank-waits s enable c (f .count) (ap (enabled enable) (f .priority) ∙ on) (f .pending) in
+          absurd (omega (arith, f .priority))
+      go false e = e
+
+  -- so the first of a priority going round is the one of the highest rank, or none of it waits
+  module _ (p k : ℕ) (last : s .last ≤ 3) (small : k < 4) (on : enabled enable p ≡ true) (waits : waitsAt s p k ≡ true)
+      (best : (c : ℕ) → c < 4 → rank s enable c ≤ 4 * p + 4 - (k + 3 - s .last) % 4) where
+    before : (c : ℕ) → c < 4 → (c + 3 - s .last) % 4 < (k + 3 - s .last) % 4 → waitsAt s p c ≡ false
+    before c l sooner = waitsAt-below p c on (omega (arith, best c l))
+
+    firstWaiting-best : firstWaiting s p (goingRound (s .last)) ≡ some k
+    unfolding firstWaiting goingRound
+    firstWaiting-best = go ((k + 3 - s .last) % 4) refl
+      where
+        go : (n : ℕ) → (k + 3 - s .last) % 4 ≡ n → firstWaiting s p (goingRound (s .last)) ≡ some k
+        go zero d =
+            let e : (s .last + 1) % 4 ≡ k = omega arith in
+            rw (e, waits)
+        go (suc zero) d =
+            let e : (s .last + 2) % 4 ≡ k = omega arith in
+            rw (before ((s .last + 1) % 4) (omega arith) (omega arith), e, waits)
+        go (suc (suc zero)) d =
+            let e : (s .last + 3) % 4 ≡ k = omega arith in
+            rw (before ((s .last + 1) % 4) (omega arith) (omega arith), before ((s .last + 2) % 4) (omega arith) (omega arith), e, waits)
+        go (suc (suc (suc zero))) d =
+            let e : (s .last + 4) % 4 ≡ k = omega arith in
+            rw (
+              before ((s .last + 1) % 4) (omega arith) (omega arith),
+              before ((s .last + 2) % 4) (omega arith) (omega arith),
+              before ((s .last + 3) % 4) (omega arith) (omega arith),
+              e,
+              waits,
+            )
+        go (suc (suc (suc (suc n)))) d = absurd (omega arith)
+
+  firstWaiting-none : (p : ℕ) → enabled enable p ≡ true → ((c : ℕ) → c < 4 → rank s enable c ≤ 4 * p)
+      → firstWaiting s p (goingRound (s .last)) ≡ none
+  unfolding firstWaiting goingRound
+  firstWaiting-none p on h =
+      rw (
+        none-at ((s .last + 1) % 4) (omega arith),
+        none-at ((s .last + 2) % 4) (omega arith),
+        none-at ((s .last + 3) % 4) (omega arith),
+        none-at ((s .last + 4) % 4) (omega arith),
+      )
+    where
+      none-at : (c : ℕ) → c < 4 → waitsAt s p c ≡ false
+      none-at c l = waitsAt-below p c on (omega (arith, h c l))
+
+  -- a priority of which none waits
+  pickFrom-next : (p : ℕ) → ((c : ℕ) → c < 4 → rank s enable c ≤ 4 * p) → pickFrom s enable (below (suc p)) ≡ pickFrom s enable (below p)
+  unfolding pickFrom below orElse
+  pickFrom-next p h = go (enabled enable p) refl
+    where
+      go : (t : Bool) → enabled enable p ≡ t → pickFrom s enable (below (suc p)) ≡ pickFrom s enable (below p)
+      go true on = rw (on, firstWaiting-none p on h)
+      go false off = rw off
+
+  pub pick-nobody : ((c : ℕ) → c < 4 → rank s enable c ≡ 0) → pick s enable ≡ none
+  unfolding pick pickFrom below
+  pick-nobody h = go 4
+    where
+      go : (n : ℕ) → pickFrom s enable (below n) ≡ none
+      go zero = refl
+      go (suc p) = pickFrom-next p (λ c l. omega (arith, h c l)) ∙ go p
+
+  pub pick-best : (k : ℕ) → inRange s ≡ true → k < 4 → 0 < rank s enable k → ((c : ℕ) → c < 4 → rank s enable c ≤ rank s enable k)
+      → pick s enable ≡ some k
+  unfolding pick pickFrom below orElse waitsAt
+  pick-best k range small some-rank best = go 4 (omega (arith, slotInRange-facts (slotAt s k) (slotInRange-slotAt s k range (f .count)) .priority))
+    where
+      f : Picked s enable k
+      f = rank-picked s enable k some-rank
+
+      r : rank s enable k ≡ 4 * slotAt s k .priority + 4 - (k + 3 - s .last) % 4
+      r = rank-waits s enable k (f .count) (f .enabled) (f .pending)
+
+      here : waitsAt s (slotAt s k .priority) k ≡ true
+      here = rw (lt-ltb k (s .circuits .count) (f .count), f .pending, eq-eqb (slotAt s k .priority) (slotAt s k .priority) refl)
+
+      go : (n : ℕ) → slotAt s k .priority < n → pickFrom s enable (below n) ≡ some k
+      go zero h = absurd (omega arith)
+      go (suc p) h = at (eqb (slotAt s k .priority) p) refl (λ l. go p l)
+        where
+          at : (t : Bool) → eqb (slotAt s k .priority) p ≡ t → (slotAt s k .priority < p → pickFrom s enable (below p) ≡ some k)
+              → pickFrom s enable (below (suc p)) ≡ some k
+          at true e lower =
+              let same : slotAt s k .priority ≡ p = eqb-true _ _ e in
+              let first = firstWaiting-best (slotAt s k .priority) k (inRange-facts s range .last) small (f .enabled) here (λ c l. omega (arith, best c l, r)) in
+              rw (← same, f .enabled, first)
+          at false e lower =
+              let other : slotAt s k .priority ≡ p → ⊥ = eqb-false _ _ e in
+              pickFrom-next p (λ c l. omega (arith, best c l, r)) ∙ lower (omega arith)
 
 -- ---- serving it
 

@@ -87,6 +87,6 @@ pub fn put_read_answer(bytes: &mut [u8], notice: Notice, read: usize)
     ensures { λ r. ⌜ now (bytes .exit) ≡ sets (now (bytes .entry)) 0 (readAnswerBytes notice read) ⌝ }
 {
     let told = notice_bytes(notice);
-    bits::copy_in(bytes, &told);
+    copying::copy_in(bytes, &told);
     put_number(bytes, 8, 8, read);
 }

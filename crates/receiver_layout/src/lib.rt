@@ -91,7 +91,7 @@ fn put_slot(bytes: &mut [u8], at: usize, t: Slot)
     ensures { λ r. ⌜ now (bytes .exit) ≡ sets (now (bytes .entry)) at (slotBytes t) ⌝ }
 {
     let slot = slot_bytes(t);
-    bits::copy_at(bytes, at, &slot);
+    copying::copy_at(bytes, at, &slot);
 }
 
 // The bytes of the four slots go to their place behind the circuits.
@@ -114,7 +114,7 @@ pub fn put_receiver(bytes: &mut [u8], receiver: Receiver)
     let slots = receiver.slots;
     let framing = receiver.framing;
     let front = circuits_bytes(circuits);
-    bits::copy_in(bytes, &front);
+    copying::copy_in(bytes, &front);
     put_slots(bytes, slots);
     put_framing(bytes, 37, framing);
 }

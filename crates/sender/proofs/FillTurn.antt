@@ -42,13 +42,16 @@ module _ (s : Sender) (store : List ℕ) (at enable u : ℕ) (e : inRange s ≡ 
     unfolding placing
     fillUp-more h = fillUp-step s store at enable u e l ∙ rw (p, le-leb (at + length (nextFrame s store c)) u h)
 
--- the frame of a circuit at which a copy waits: where 209 bits are left it fits, and elsewhere its last bit's number is small
+-- the frame of a circuit at which a copy waits: where 209 bits are left it fits, it has room in 27 bytes, and its last bit's number is small
 module _ (s : Sender) (store : List ℕ) (c : ℕ) (range : inRange s ≡ true) (listed : c < s .circuits .count) (long : storeLength ≤ length store)
     (waits : pending (slotAt s c) ≡ true) where
   pub fits-longest : (at u : ℕ) → at + 209 ≤ u → true ≡ leb (at + length (nextFrame s store c)) u
   fits-longest at u h = sym (le-leb (at + length (nextFrame s store c)) u (omega (arith, length-nextFrame s store c range listed long waits)))
 
-  pub nextFrame-small : (at n : ℕ) → at ≤ 27000 → n ≡ length (nextFrame s store c) → at + n < 2 ^ 64
+  pub nextFrame-room : (bytes : List ℕ) → length bytes ≡ 27 → Room bytes 0 (nextFrame s store c)
+  nextFrame-room bytes h = omega (arith, length-nextFrame s store c range listed long waits)
+
+  pub nextFrame-small : (at n : ℕ) → at ≤ 27000 → n ≡ 0 + length (nextFrame s store c) → at + n < 2 ^ 64
   nextFrame-small at n h e = omega (arith, length-nextFrame s store c range listed long waits)
 
 nextFrame-some : (s : Sender) (store : List ℕ) (c : ℕ) → 1 ≤ length (nextFrame s store c)

@@ -50,7 +50,7 @@ fn put_opening(buf: &mut [u8], wanted: bool, enable: u8, code: u8, information: 
     put_system(buf, at, enable, code, information)
 }
 
-// The frame that is next at a circuit, with its flag, does not pass u. Only near u is it counted first.
+// The frame that is next at a circuit, with its flag, does not pass u. Only near u is it measured, written into an array of its own.
 fn fits(sender: Sender, store: &[u8], circuit: usize, at: usize, u: usize) -> bool
     requires { ⌜ inRange sender ≡ true ⌝ }
     requires { ⌜ circuit < sender .circuits .count ⌝ }
@@ -62,7 +62,9 @@ fn fits(sender: Sender, store: &[u8], circuit: usize, at: usize, u: usize) -> bo
     if at + LONGEST <= u {
         return true;
     }
-    at + writing::next_length(sender, store, circuit) <= u
+    let mut scratch = [0u8; 27];
+    let length = writing::put_next(&mut scratch, 0, sender, store, circuit);
+    at + length <= u
 }
 
 // Frames from bit `at` on, each with a flag after it, until none waits or the next would pass u.
@@ -109,7 +111,7 @@ fn close(buf: &mut [u8], used: usize, n: usize)
     requires { ⌜ (used ≤ n) × (n ≤ 27000) × (n ≤ 8 * length (now buf)) ⌝ }
     ensures { λ r. ⌜ Closed (now (buf .entry)) used n (now (buf .exit)) ⌝ }
 {
-    bits::put_run(buf, used, n - used, true);
+    bits::put_long_run(buf, used, n - used, true);
     bits::put_run(buf, n, 8 * ((n + 7) / 8) - n, false);
 }
 

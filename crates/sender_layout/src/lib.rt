@@ -79,7 +79,7 @@ fn put_slot(bytes: &mut [u8], at: usize, t: Slot)
     ensures { λ r. ⌜ now (bytes .exit) ≡ sets (now (bytes .entry)) at (slotBytes t) ⌝ }
 {
     let slot = slot_bytes(t);
-    bits::copy_at(bytes, at, &slot);
+    copying::copy_at(bytes, at, &slot);
 }
 
 // The bytes of the four slots go to their place behind the circuits.
@@ -102,9 +102,9 @@ pub fn put_sender(bytes: &mut [u8], sender: Sender)
     let slots = sender.slots;
     let front = circuits_bytes(circuits);
     let end = [sender.last, sender.enable];
-    bits::copy_in(bytes, &front);
+    copying::copy_in(bytes, &front);
     put_slots(bytes, slots);
-    bits::copy_at(bytes, 53, &end);
+    copying::copy_at(bytes, 53, &end);
 }
 
 // A block's answer goes to the start of the bytes lent: the frames placed and the bits used.

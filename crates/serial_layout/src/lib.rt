@@ -21,7 +21,7 @@ pub fn line_in(bytes: &[u8]) -> Line
     ensures { λ r. ⌜ r ≡ lineIn (now (bytes .entry)) ⌝ }
 {
     let mut kept = [0u8; 21];
-    bits::copy_in(&mut kept, &bytes[3..24]);
+    copying::copy_in(&mut kept, &bytes[3..24]);
     Line {
         inside: bytes[0] != 0,
         escape: bytes[1] != 0,
@@ -37,8 +37,8 @@ pub fn put_line(bytes: &mut [u8], line: Line)
 {
     let head = [line.inside as u8, line.escape as u8, line.count];
     let kept = line.bytes;
-    bits::copy_in(bytes, &head);
-    bits::copy_at(bytes, 3, &kept);
+    copying::copy_in(bytes, &head);
+    copying::copy_at(bytes, 3, &kept);
 }
 
 // A reading call's answer goes to the start of the bytes lent: the packet's length, and how many bytes were read.

@@ -1,4 +1,4 @@
--- The next frame of a circuit at which a copy waits, in a record in range: what writing it and measuring it ask holds, and it has at most
+-- The next frame of a circuit at which a copy waits, in a record in range: what writing it asks holds, and it has at most
 -- 209 bits with its flag, since its packet has at most 19 bytes.
 use Prim.Native.Nat.{ℕ, _≤_, _<_}
 use native.Mathlib.Omega.{arith}
@@ -32,7 +32,7 @@ length-packetAt c t m h e =
     let (some, most) = length-segment m (t .place) within in
     length-packetOf c (linkOf (t .place) (packets (t .length))) (t .index) (t .priority) (segment m (t .place)) some most .1
 
-pub length-frameAt : (c : Circuit) (t : Slot) (m : List ℕ) → pending t ≡ true → length m ≡ t .length
+length-frameAt : (c : Circuit) (t : Slot) (m : List ℕ) → pending t ≡ true → length m ≡ t .length
     → length (frame (packetAt c t m) ++ flag) ≤ 209
 length-frameAt c t m h e = length-frame-flag (packetAt c t m) (length-packetAt c t m h e)
 

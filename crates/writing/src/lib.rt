@@ -1,22 +1,31 @@
-// The frame of the first copy waiting at a circuit, written or only measured. No byte of the packet is kept: each is
-// stuffed, or passed, as it is known.
+// The frame of the first copy waiting at a circuit, written. No byte of the packet is kept: each is stuffed as it is known.
 ghost use mathlib.Core.Path.{_≡_};
 ghost use mathlib.Core.Bool.{true};
 ghost use mathlib.Core.List.{_++_};
-ghost use Prim.Native.Nat.{_+_, _^_, _≤_, _<_};
+ghost use Prim.Native.Nat.{_≤_, _<_};
 ghost use lib.ListN.{length};
 ghost use Rattle.bits.specs.Bits.{bitsOf};
 ghost use Rattle.hdlc.specs.Frames.{flag, frame};
-ghost use Rattle.hdlc.specs.Writing.{Room, Written, Stuffed, stuffedBy, penAfter};
+ghost use Rattle.hdlc.specs.Writing.{Room, Written, Stuffed, stuffedBy};
 ghost use Rattle.offering.specs.Record.{storeLength, slotAt, pending, slotInRange, inRange, messageAt};
 ghost use Rattle.writing.specs.NextFrame.{nextFrame};
 ghost use Rattle.writing.specs.PacketParts.{packetAt, controlAt, addressAt, headerAt, leadOf, partAt};
 use hdlc::Pen;
-use hdlc::counting;
 use offering::Sender;
 use offering::Slot;
 use packet::Circuit;
 use packet::Part;
+
+// The pen, copied field by field: copied at once, it is read before its fields, stored one by one, are there.
+fn same(pen: Pen) -> Pen
+    ensures { λ r. ⌜ r ≡ pen ⌝ }
+{
+    Pen {
+        at: pen.at,
+        free: pen.free,
+        fcs: pen.fcs,
+    }
+}
 
 // The control byte of a slot's next packet.
 fn control_byte(circuit: Circuit, slot: Slot) -> u8
@@ -44,7 +53,7 @@ fn put_address(buf: &mut [u8], pen: Pen, circuit: Circuit, slot: Slot) -> Pen
     let p = hdlc::stuff_byte(buf, pen, circuit.address);
     let q = hdlc::stuff_byte(buf, p, control_byte(circuit, slot));
     if circuit.extended == 0 {
-        return q;
+        return same(q);
     }
     hdlc::stuff_byte(buf, q, circuit.extension)
 }
@@ -56,12 +65,12 @@ fn put_header(buf: &mut [u8], pen: Pen, slot: Slot) -> Pen
     ensures { λ r. ⌜ Stuffed (now (buf .entry)) pen (bitsOf (headerAt slot)) (now (buf .exit)) r ⌝ }
 {
     if slot.place != 0 {
-        return pen;
+        return same(pen);
     }
     let n = slot.length as usize;
     let p = hdlc::stuff_byte(buf, pen, packet::header_first(n));
     if packet::header_length(n) == 1 {
-        return p;
+        return same(p);
     }
     hdlc::stuff_byte(buf, p, packet::header_second(n))
 }
@@ -75,49 +84,6 @@ fn put_lead(buf: &mut [u8], pen: Pen, circuit: Circuit, slot: Slot) -> Pen
 {
     let p = put_address(buf, pen, circuit, slot);
     put_header(buf, p, slot)
-}
-
-// The pen behind the address, the control byte and the extension, where present, of a slot's next packet.
-fn pass_address(pen: Pen, circuit: Circuit, slot: Slot) -> Pen
-    requires { ⌜ slotInRange slot ≡ true ⌝ }
-    requires { ⌜ circuit .extended < 2 ⌝ }
-    requires { ⌜ pen .at + length (stuffedBy pen (bitsOf (addressAt circuit slot))) < 2 ^ 64 ⌝ }
-    ensures { λ r. ⌜ r ≡ penAfter pen (bitsOf (addressAt circuit slot)) ⌝ }
-{
-    let p = counting::pass_byte(pen, circuit.address);
-    let q = counting::pass_byte(p, control_byte(circuit, slot));
-    if circuit.extended == 0 {
-        return q;
-    }
-    counting::pass_byte(q, circuit.extension)
-}
-
-// The pen behind the header of a slot's message, if its next packet is the first.
-fn pass_header(pen: Pen, slot: Slot) -> Pen
-    requires { ⌜ slotInRange slot ≡ true ⌝ }
-    requires { ⌜ pen .at + length (stuffedBy pen (bitsOf (headerAt slot))) < 2 ^ 64 ⌝ }
-    ensures { λ r. ⌜ r ≡ penAfter pen (bitsOf (headerAt slot)) ⌝ }
-{
-    if slot.place != 0 {
-        return pen;
-    }
-    let n = slot.length as usize;
-    let p = counting::pass_byte(pen, packet::header_first(n));
-    if packet::header_length(n) == 1 {
-        return p;
-    }
-    counting::pass_byte(p, packet::header_second(n))
-}
-
-// The pen behind what stands before the message's bytes in a slot's next packet.
-fn pass_lead(pen: Pen, circuit: Circuit, slot: Slot) -> Pen
-    requires { ⌜ slotInRange slot ≡ true ⌝ }
-    requires { ⌜ circuit .extended < 2 ⌝ }
-    requires { ⌜ pen .at + length (stuffedBy pen (bitsOf (leadOf circuit slot))) < 2 ^ 64 ⌝ }
-    ensures { λ r. ⌜ r ≡ penAfter pen (bitsOf (leadOf circuit slot)) ⌝ }
-{
-    let p = pass_address(pen, circuit, slot);
-    pass_header(p, slot)
 }
 
 // The part of the message in a slot's next packet.
@@ -144,19 +110,6 @@ fn put_packet(buf: &mut [u8], at: usize, circuit: Circuit, slot: Slot, message: 
     let pen = put_lead(buf, Pen::new(at), circuit, slot);
     let end = hdlc::stuff_bytes(buf, pen, part_of(slot, message));
     hdlc::end_frame(buf, end)
-}
-
-// The number of bits of the frame of a slot's next packet, and of the flag behind it.
-fn packet_length(circuit: Circuit, slot: Slot, message: &[u8]) -> usize
-    requires { ⌜ slotInRange slot ≡ true ⌝ }
-    requires { ⌜ pending slot ≡ true ⌝ }
-    requires { ⌜ circuit .extended < 2 ⌝ }
-    requires { ⌜ length (now message) ≡ slot .length ⌝ }
-    ensures { λ r. ⌜ r ≡ length (frame (packetAt circuit slot (now (message .entry))) ++ flag) ⌝ }
-{
-    let pen = pass_lead(Pen::new(0), circuit, slot);
-    let end = counting::pass_bytes(pen, part_of(slot, message));
-    counting::pass_end(end)
 }
 
 // The message of a circuit, at the start of its region.
@@ -188,20 +141,4 @@ pub fn put_next(buf: &mut [u8], at: usize, sender: Sender, store: &[u8], circuit
     let listed = list[circuit];
     let slot = slots[circuit];
     put_packet(buf, at, listed, slot, message_at(sender, store, circuit))
-}
-
-// The number of bits of the frame of the first copy waiting at a circuit, and of the flag behind it.
-pub fn next_length(sender: Sender, store: &[u8], circuit: usize) -> usize
-    requires { ⌜ inRange sender ≡ true ⌝ }
-    requires { ⌜ circuit < sender .circuits .count ⌝ }
-    requires { ⌜ pending (slotAt sender circuit) ≡ true ⌝ }
-    requires { ⌜ storeLength ≤ length (now store) ⌝ }
-    ensures { λ r. ⌜ r ≡ length (nextFrame sender (now (store .entry)) circuit) ⌝ }
-{
-    let circuits = sender.circuits;
-    let list = circuits.list;
-    let slots = sender.slots;
-    let listed = list[circuit];
-    let slot = slots[circuit];
-    packet_length(listed, slot, message_at(sender, store, circuit))
 }

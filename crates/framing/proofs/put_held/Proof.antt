@@ -2,7 +2,7 @@
 use mathlib.Core.Bool.{true, false}
 use borrow.Author.Needs.{needs}
 use Rattle.bits.proofs.Bits.{Bytes-each}
-use Rattle.framing.proofs.Stepping.{filled-runs}
+use Rattle.framing.proofs.Stepping.{overwritten-runs}
 use Rattle.framing.proofs.put_held.Statement.{statement}
 use Rattle.framing.proofs.put_held.Tie as tie
 
@@ -21,7 +21,7 @@ same-length c = search needs
 returns : tie.Need-returns
 returns c =
     let a = c .before .before .before .before .before .before .before .before .before .args in
-    filled-runs (a .bytes .now) _ _ (a .at) (a .zeros) (a .ones) false true (same-length c)
+    overwritten-runs (a .bytes .now) _ _ (a .at) (a .zeros) (a .ones) false true (same-length c)
     (Bytes-each _ (λ i. c .slice-known3 .given i .fits))
     (c .before .before .before .before .before .before .put-run .ensures)
     (c .before .before .put-run2 .ensures)

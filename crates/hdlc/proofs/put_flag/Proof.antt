@@ -1,48 +1,33 @@
--- `hdlc::put_flag` meets its contract: a 0, six ones and a 0, each within the room for a flag.
+-- `hdlc::put_flag` meets its contract: 7E hex is put with a writer of its own.
 use native.Mathlib.Omega.{arith}
+use Rattle.bits.specs.Bits.{byteBits}
+use Rattle.hdlc.specs.Frames.{flag}
+use Rattle.hdlc.proofs.Ending.{length-flag}
+use Rattle.hdlc.proofs.ByWriter.{Written-put}
 use borrow.Author.Needs.{needs}
-use Rattle.hdlc.proofs.Ending.{length-flag, Written-flag}
 use Rattle.hdlc.proofs.put_flag.Statement.{statement}
 use Rattle.hdlc.proofs.put_flag.Tie as tie
 
-put-bit-requires : tie.Need-put-bit-requires
-put-bit-requires c κs = omega (arith, length-flag)
+new-requires : tie.Need-new-requires
+new-requires c κs = omega (arith, length-flag)
 
-add-put-run : tie.Need-add-put-run
-add-put-run c = omega (arith, length-flag)
+put-requires : tie.Need-put-requires
+put-requires c κs = (c .before .new .ensures .0, omega (arith, length-flag), omega arith, omega arith, omega arith)
 
-put-run-requires : tie.Need-put-run-requires
-put-run-requires c κs = omega (arith, length-flag, c .before .before .before .put-bit .kept .0)
-
-add-put-bit : tie.Need-add-put-bit
-add-put-bit c = omega (arith, length-flag)
-
-put-bit-requires-2 : tie.Need-put-bit-requires-2
-put-bit-requires-2 c κs =
-    let run = c .before .before .before in
-    omega (arith, length-flag, run .put-run .kept .0, run .before .before .before .before .put-bit .kept .0)
-
-add-result : tie.Need-add-result
-add-result c = omega (arith, length-flag)
+close-requires : tie.Need-close-requires
+close-requires c κs =
+    let put = c .before .before .before in
+    (put .put .ensures .0, omega (arith, length-flag, put .put .kept .1 .0), omega (arith, length-flag))
 
 same-length : tie.Need-same-length
 same-length c = search needs
 
 returns : tie.Need-returns
+unfolding flag byteBits
 returns c =
-    let bit2 = c .before .before in
-    let run = bit2 .before .before .before .before in
-    Written-flag (run .before .before .before .before .put-bit .ensures) (run .put-run .ensures) (bit2 .put-bit2 .ensures)
+    let put = c .before .before .before .before .before .before in
+    let new = put .before .before in
+    Written-put (new .before .before .before .args .at) 8 0x7e (new .new .ensures) (put .put .ensures) (c .before .before .close .ensures)
 
 pub put-flag-spec : {M : Type 1} → statement M
-put-flag-spec =
-    tie.close
-    (tie.spec
-    put-bit-requires
-    add-put-run
-    put-run-requires
-    add-put-bit
-    put-bit-requires-2
-    add-result
-    same-length
-    returns)
+put-flag-spec = tie.close (tie.spec new-requires put-requires close-requires same-length returns)

@@ -1,70 +1,75 @@
--- `hdlc::stuff_byte` meets its contract. The loop's invariant: the bits left of the byte, written from here, are all of them
--- written from the start.
-use Prim.Native.Nat.{_+_, _-_, _/_, _≤_}
-use mathlib.Core.List.{[], _∷_}
+-- `hdlc::stuff_byte` meets its contract: bit by bit, or with the byte's chunk put at once.
 use native.Mathlib.Omega.{arith}
-use Rattle.bits.specs.Bits.{odd, lowBits, byteBits}
-use Rattle.hdlc.proofs.Writing.{ToGo, ToGo-start, ToGo-room, ToGo-step, ToGo-end, Put-Stuffed, lowBits-step, lowBits-none}
+use Rattle.bits.specs.Bits.{byteBits}
+use Rattle.bits.proofs.Bits.{length-byteBits}
+use Rattle.hdlc.proofs.ByWriter.{Room-new, chunk-length, Written-put, Stuffed-chunk}
+use borrow.Author.Needs.{needs}
 use Rattle.hdlc.proofs.stuff_byte.Statement.{statement}
 use Rattle.hdlc.proofs.stuff_byte.Tie as tie
 
-abbrev Inv-loop : tie.InvT-loop
-Inv-loop buf₀ pen byte p₀ rest₀ k₀ buf p rest k = (k ≤ 8) × ToGo buf₀ pen (byteBits byte) buf p (lowBits (8 - k) rest)
+stuff-by-bits-requires : tie.Need-stuff-by-bits-requires
+stuff-by-bits-requires c κs = search needs
 
-abbrev μ-loop : tie.MeasureT-loop
-μ-loop buf₀ pen byte p₀ rest₀ k₀ buf p rest k = 8 - k
+same-length : tie.Need-same-length
+same-length c = search needs
 
-loop-holds : tie.Need-loop-holds Inv-loop μ-loop
-unfolding byteBits
-loop-holds c = (omega arith, ToGo-start (c .before .pre))
+returns : tie.Need-returns
+returns c = search needs
 
-stuff-bit-requires : tie.Need-stuff-bit-requires Inv-loop μ-loop
-unfolding odd
-stuff-bit-requires c κs =
-    let l = c .before .before .loop in
-    ToGo-room (l .inv .1) (odd (l .rest) ∷ []) (lowBits (8 - (l .k + 1)) (l .rest / 2))
-    (lowBits-step 8 (l .k) (l .rest) (c .before .loop-test .taken))
+of-requires : tie.Need-of-requires
+of-requires c κs = search needs
 
-add-k : tie.Need-add-k Inv-loop μ-loop
-add-k c = omega arith
+new-requires : tie.Need-new-requires
+new-requires c κs =
+    let s = c .before .before .before .before in
+    Room-new (s .args .pen) (byteBits (s .args .byte)) (s .pre) (omega (arith, length-byteBits (s .args .byte)))
 
-loop-less : tie.Need-loop-less Inv-loop μ-loop
-loop-less c = omega arith
+put-requires : tie.Need-put-requires
+put-requires c κs =
+    let new = c .before in
+    let chunk = new .before .before in
+    let s = chunk .before .before .before in
+    let b = chunk .of .ensures in
+    (new .new .ensures .0, omega (arith, s .pre .within, chunk-length (s .args .pen) b, new .new .ensures .1), b .least, omega (arith, b .most), b .fits)
 
-loop-again : tie.Need-loop-again Inv-loop μ-loop
-unfolding odd
-loop-again c =
-    let l = c .before .before .before .before .before .loop in
-    let put = c .before .before .stuff-bit in (
-      omega arith,
-      ToGo-step (l .inv .1) (odd (l .rest) ∷ []) (lowBits (8 - (l .k + 1)) (l .rest / 2))
-          (lowBits-step 8 (l .k) (l .rest) (c .before .before .before .before .loop-test .taken))
-          (put .ensures .0) (put .kept .0),
+close-requires : tie.Need-close-requires
+close-requires c κs =
+    let put = c .before .before .before in
+    let new = put .before .before in
+    let chunk = new .before .before in
+    let s = chunk .before .before .before in
+    let l = chunk-length (s .args .pen) (chunk .of .ensures) in (
+      put .put .ensures .0,
+      omega (arith, s .pre .within, l, new .new .ensures .1, put .put .ensures .1, put .put .kept .1 .0),
+      omega (arith, s .pre .small, l, new .new .ensures .1, put .put .ensures .1),
     )
 
-fcs-byte-requires : tie.Need-fcs-byte-requires Inv-loop μ-loop
-fcs-byte-requires c κs = tt
+fcs-byte-requires : tie.Need-fcs-byte-requires
+fcs-byte-requires c κs = search needs
 
-same-length : tie.Need-same-length Inv-loop μ-loop
-same-length c = c .before .before .loop .inv .1 .long
+same-length-2 : tie.Need-same-length-2
+same-length-2 c = search needs
 
-returns : tie.Need-returns Inv-loop μ-loop
-returns c =
-    let l = c .before .before .loop in
-    Put-Stuffed (byteBits (c .before .before .before .before .args .byte))
-    (ToGo-end (l .inv .1) (lowBits-none 8 (l .k) (l .rest) (c .before .loop-test .left))) (c .fcs-byte .ensures)
+returns-2 : tie.Need-returns-2
+returns-2 c =
+    let put = c .before .before .before .before .before .before .before in
+    let new = put .before .before in
+    let chunk = new .before .before in
+    let pen = chunk .before .before .before .args .pen in
+    let w = Written-put (pen .at) (chunk .of .result .len) (chunk .of .result .value) (new .new .ensures) (put .put .ensures) (c .before .before .before .close .ensures) in
+    Stuffed-chunk pen (chunk .of .ensures) w (c .fcs-byte .ensures)
 
 pub stuff-byte-spec : {M : Type 1} → statement M
 stuff-byte-spec =
     tie.close
     (tie.spec
-    Inv-loop
-    μ-loop
-    loop-holds
-    stuff-bit-requires
-    add-k
-    loop-less
-    loop-again
-    fcs-byte-requires
+    stuff-by-bits-requires
     same-length
-    returns)
+    returns
+    of-requires
+    new-requires
+    put-requires
+    close-requires
+    fcs-byte-requires
+    same-length-2
+    returns-2)

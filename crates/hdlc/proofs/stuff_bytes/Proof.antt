@@ -1,48 +1,69 @@
--- `hdlc::stuff_bytes` meets its contract. The loop's invariant: the bits of the bytes left, written from here, are all of them
--- written from the start, and so is the FCS register.
-use Prim.Native.Nat.{ℕ, _+_, _-_, _≤_, _<_}
-use mathlib.Core.Path.{_≡_, refl, ap, sym, _∙_}
+-- `hdlc::stuff_bytes` meets its contract: one byte after another, or through one bit writer. The loop's invariant: the first i bytes are written, but for
+-- the bits that the writer holds.
+use Prim.Native.Nat.{_-_, _≤_}
 use native.Mathlib.Omega.{arith}
-use lib.ListN.{length, getD, drop}
-use Rattle.bits.specs.Bits.{byteBits, bitsOf}
-use Rattle.fcs.specs.Fcs.{fcsRun}
-use Rattle.fcs.proofs.Laws.{fcsRun-bitsOf}
-use Rattle.hdlc.proofs.Writing.{
-  ToGo,
-  ToGo-start,
-  ToGo-room,
-  ToGo-step,
-  ToGo-end,
-  Put-Stuffed,
-  Stuffed-Put,
-  Stuffed-fcs,
-  bitsOf-step,
-  bitsOf-none,
-}
+use mathlib.Core.Path.{sym, _∙_}
+use borrow.Author.Needs.{needs}
+use lib.ListN.{length}
+use Rattle.bits.specs.Bits.{bitsOf}
+use Rattle.bits.proofs.Bits.{length-bitsOf}
+use Rattle.hdlc.proofs.Writing.{bitsOf-none}
+use Rattle.hdlc.proofs.InTurn.{Stuffed-nil}
+use Rattle.hdlc.proofs.ByWriter.{Room-new, Underway, Underway-start, Underway-room, Underway-step, Underway-close, Underway-end}
 use Rattle.hdlc.proofs.stuff_bytes.Statement.{statement}
 use Rattle.hdlc.proofs.stuff_bytes.Tie as tie
 
 abbrev Inv-loop : tie.InvT-loop
-Inv-loop buf₀ bytes p₀ i₀ buf p i =
-    (i ≤ length bytes) ×
-    ToGo buf₀ p₀ (bitsOf bytes) buf p (bitsOf (drop i bytes)) ×
-    (fcsRun (p .fcs) (bitsOf (drop i bytes)) ≡ fcsRun (p₀ .fcs) (bitsOf bytes))
+Inv-loop buf₀ bytes at free₀ fcs₀ writer₀ i₀ buf free fcs writer i =
+    (i ≤ length bytes) × Underway buf₀ (record { at = at; free = free₀; fcs = fcs₀ }) bytes i buf writer free fcs
 
 abbrev μ-loop : tie.MeasureT-loop
-μ-loop buf₀ bytes p₀ i₀ buf p i = length bytes - i
+μ-loop buf₀ bytes at free₀ fcs₀ writer₀ i₀ buf free fcs writer i = length bytes - i
+
+stuff-in-turn-requires : tie.Need-stuff-in-turn-requires Inv-loop μ-loop
+stuff-in-turn-requires c κs = c .before .before .before .before .pre
+
+same-length : tie.Need-same-length Inv-loop μ-loop
+same-length c = search needs
+
+returns : tie.Need-returns Inv-loop μ-loop
+returns c = c .before .before .stuff-in-turn .ensures
+
+returns-2 : tie.Need-returns-2 Inv-loop μ-loop
+returns-2 c =
+    let a = c .before .before .before .before .args in
+    rw (bitsOf-none (a .bytes .now) 0 (omega arith)) (Stuffed-nil (a .buf .now) (a .pen))
+
+new-requires : tie.Need-new-requires Inv-loop μ-loop
+new-requires c κs =
+    let s = c .before .before .before .before .before in
+    let bytes = s .args .bytes .now in
+    Room-new (s .args .pen) (bitsOf bytes) (s .pre) (omega (arith, length-bitsOf bytes))
 
 loop-holds : tie.Need-loop-holds Inv-loop μ-loop
-loop-holds c = (omega arith, ToGo-start (c .before .before .pre), refl)
+loop-holds c =
+    let s = c .before .before .before .before .before .before in
+    (omega arith, Underway-start (s .args .pen) (s .args .bytes .now) (c .before .before .before .if1 .left) (c .new .ensures))
 
-shared-slice-read-stuff-byte : tie.Need-shared-slice-read-stuff-byte Inv-loop μ-loop
-shared-slice-read-stuff-byte c = omega arith
+shared-slice-read-byte : tie.Need-shared-slice-read-byte Inv-loop μ-loop
+shared-slice-read-byte c = omega arith
 
-stuff-byte-requires : tie.Need-stuff-byte-requires Inv-loop μ-loop
-stuff-byte-requires c κs =
-    let l = c .before .before .before in
-    let bytes = l .before .before .before .args .bytes .now in
-    ToGo-room (l .loop .inv .1) (byteBits (getD bytes (l .loop .i) 0)) (bitsOf (drop (l .loop .i + 1) bytes))
-    (bitsOf-step bytes (l .loop .i) (c .before .before .loop-test .taken))
+of-requires : tie.Need-of-requires Inv-loop μ-loop
+of-requires c κs = c .before .before .loop .inv .1 .few
+
+put-requires : tie.Need-put-requires Inv-loop μ-loop
+put-requires c κs =
+    let l = c .before .before .before .before in
+    let s = l .before .before .before .before .before .before .before in
+    let u = l .loop .inv .1 in
+    let b = c .before .of .ensures in
+    (u .held, Underway-room (s .args .pen) (s .args .bytes .now) u (c .before .before .before .loop-test .taken) b (s .pre), b .least, omega (arith, b .most), b .fits)
+
+free-behind-requires : tie.Need-free-behind-requires Inv-loop μ-loop
+free-behind-requires c κs = omega (arith, c .before .before .before .before .before .before .before .loop .inv .1 .few)
+
+fcs-byte-requires : tie.Need-fcs-byte-requires Inv-loop μ-loop
+fcs-byte-requires c κs = tt
 
 add-i : tie.Need-add-i Inv-loop μ-loop
 add-i c = omega arith
@@ -52,28 +73,34 @@ loop-less c = omega arith
 
 loop-again : tie.Need-loop-again Inv-loop μ-loop
 loop-again c =
-    let put = c .before .before .stuff-byte in
-    let l = c .before .before .before .before .before .before in
-    let i = l .loop .i in
-    let bytes = l .before .before .before .args .bytes .now in
-    let byte = byteBits (getD bytes i 0) in
-    let below : i < length bytes = c .before .before .before .before .before .loop-test .taken in (
+    let behind = c .before in
+    let put = behind .before .before .before in
+    let chunk = put .before .before in
+    let l = chunk .before .before .before in
+    let s = l .before .before .before .before .before .before .before in (
       omega arith,
-      ToGo-step (l .loop .inv .1) byte (bitsOf (drop (i + 1) bytes)) (bitsOf-step bytes i below)
-          (Stuffed-Put byte (put .ensures)) (put .kept .0),
-      ap (λ (r : ℕ). fcsRun r (bitsOf (drop (i + 1) bytes))) (Stuffed-fcs byte (put .ensures)) ∙ sym (fcsRun-bitsOf (l .loop .p .fcs) bytes i below) ∙ l .loop .inv .2,
+      rw (behind .free-behind .ensures ∙ sym (chunk .of .ensures .behind))
+          (Underway-step (s .args .pen) (s .args .bytes .now) (l .loop .inv .1) (chunk .before .before .loop-test .taken) (chunk .of .ensures)
+          (put .put .kept .1 .0) (put .put .ensures) (c .fcs-byte .ensures)),
     )
 
-same-length : tie.Need-same-length Inv-loop μ-loop
-same-length c = c .before .loop .inv .1 .long
+close-requires : tie.Need-close-requires Inv-loop μ-loop
+close-requires c κs =
+    let l = c .before .before in
+    let s = l .before .before .before .before .before .before .before in
+    let u = l .loop .inv .1 in
+    let fits = Underway-close (s .args .pen) (s .args .bytes .now) u (c .before .loop-test .left) (s .pre) in
+    (u .held, fits .0, fits .1)
 
-returns : tie.Need-returns Inv-loop μ-loop
-unfolding fcsRun
-returns c =
-    let l = c .before .loop in
-    let bytes = c .before .before .before .before .args .bytes .now in
-    let none = bitsOf-none bytes (l .i) (c .loop-test .left) in
-    Put-Stuffed (bitsOf bytes) (ToGo-end (l .inv .1) none) (rw none at (l .inv .2))
+same-length-2 : tie.Need-same-length-2 Inv-loop μ-loop
+same-length-2 c = c .before .before .close .kept .1 .0 ∙ c .before .before .before .before .before .loop .inv .1 .long
+
+returns-3 : tie.Need-returns-3 Inv-loop μ-loop
+returns-3 c =
+    let l = c .before .before .before .before .before in
+    let s = l .before .before .before .before .before .before .before in
+    let close = c .before .before .close .ensures in
+    Underway-end (s .args .pen) (s .args .bytes .now) (l .loop .inv .1) (c .before .before .before .before .loop-test .left) (close .0) (close .1)
 
 pub stuff-bytes-spec : {M : Type 1} → statement M
 stuff-bytes-spec =
@@ -81,11 +108,20 @@ stuff-bytes-spec =
     (tie.spec
     Inv-loop
     μ-loop
+    stuff-in-turn-requires
+    same-length
+    returns
+    returns-2
+    new-requires
     loop-holds
-    shared-slice-read-stuff-byte
-    stuff-byte-requires
+    shared-slice-read-byte
+    of-requires
+    put-requires
+    free-behind-requires
+    fcs-byte-requires
     add-i
     loop-less
     loop-again
-    same-length
-    returns)
+    close-requires
+    same-length-2
+    returns-3)

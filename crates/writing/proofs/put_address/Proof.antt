@@ -42,13 +42,17 @@ two c =
     Going-step (one (c .before .before .before .before .before)) _ _ (bitsOf-controlAt (a .circuit) (a .slot) (c .before .control-byte .ensures))
     (c .stuff-byte2 .ensures) (c .stuff-byte2 .kept .0)
 
+same-requires : tie.Need-same-requires
+same-requires c κs = search needs
+
 same-length : tie.Need-same-length
 same-length c = search needs
 
 returns : tie.Need-returns
 returns c =
-    let put = c .before .before .before .before in
-    Going-end (two put) (bitsOf-extension-none (put .before .before .before .before .before .before .before .before .args .circuit) (c .if1 .taken))
+    let put = c .before .before .before .before .before in
+    rw (c .same .ensures)
+    (Going-end (two put) (bitsOf-extension-none (put .before .before .before .before .before .before .before .before .args .circuit) (c .before .if1 .taken)))
 
 stuff-byte-requires-3 : tie.Need-stuff-byte-requires-3
 stuff-byte-requires-3 c κs =
@@ -70,6 +74,7 @@ put-address-spec =
     stuff-byte-requires
     control-byte-requires
     stuff-byte-requires-2
+    same-requires
     same-length
     returns
     stuff-byte-requires-3

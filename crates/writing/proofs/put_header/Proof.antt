@@ -10,10 +10,13 @@ use Rattle.writing.proofs.PacketWriting.{bitsOf-headerAt-later, bitsOf-
 use Rattle.writing.proofs.put_header.Statement.{statement}
 use Rattle.writing.proofs.put_header.Tie as tie
 
+same-requires : tie.Need-same-requires
+same-requires c κs = search needs
+
 returns : tie.Need-returns
 returns c =
-    let s = c .before .before .before in
-    Going-end (Going-start (s .pre .1)) (bitsOf-headerAt-later (s .args .slot) (c .if1 .taken))
+    let s = c .before .before .before .before in
+    rw (c .same .ensures) (Going-end (Going-start (s .pre .1)) (bitsOf-headerAt-later (s .args .slot) (c .before .if1 .taken)))
 
 cast-n : tie.Need-cast-n
 cast-n c = search needs
@@ -42,13 +45,19 @@ one c =
 header-length-requires : tie.Need-header-length-requires
 header-length-requires c κs = search needs
 
+same-requires-2 : tie.Need-same-requires-2
+same-requires-2 c κs = search needs
+
 same-length : tie.Need-same-length
 same-length c = search needs
 
 returns-2 : tie.Need-returns-2
 returns-2 c =
-    let put = c .before .before .before .before in
-    Going-end (one put) (bitsOf-header-none (put .before .before .before .before .before .before .before .args .slot .length) (c .before .header-length .ensures) (c .if2 .taken))
+    let one-byte = c .before in
+    let put = one-byte .before .before .before .before in
+    rw (c .same2 .ensures)
+    (Going-end (one put)
+    (bitsOf-header-none (put .before .before .before .before .before .before .before .args .slot .length) (one-byte .before .header-length .ensures) (one-byte .if2 .taken)))
 
 header-second-requires : tie.Need-header-second-requires
 header-second-requires c κs =
@@ -78,11 +87,13 @@ pub put-header-spec : {M : Type 1} → statement M
 put-header-spec =
     tie.close
     (tie.spec
+    same-requires
     returns
     cast-n
     header-first-requires
     stuff-byte-requires
     header-length-requires
+    same-requires-2
     same-length
     returns-2
     header-second-requires

@@ -1,7 +1,7 @@
 -- `Head::keep` meets its contract: the bits held back are written where they have room.
 use native.Mathlib.Omega.{arith}
 use borrow.Author.Needs.{needs}
-use Rattle.framing.specs.Heads.{joined}
+use Rattle.framing.specs.Heads.{framingOf}
 use Rattle.framing.proofs.Stepping.{plain-le, keep-room, keep-full}
 use Rattle.framing.proofs.Head.keep.Statement.{statement}
 use Rattle.framing.proofs.Head.keep.Tie as tie
@@ -27,7 +27,7 @@ add-end-2 c = omega (arith, plain-le (c .before .before .before .before .args .s
 returns : tie.Need-returns
 returns c =
     let a = c .before .before .before .before .before .before .args in
-    keep-full (joined (a .self) (a .bits .now)) _ _
+    keep-full (framingOf (a .self) (a .bits .now)) _ _
     (c .before .before .before .before .before .phase-after .ensures)
     (c .before .before .before .plain-zeros .ensures)
     (c .before .if1 .taken)
@@ -41,7 +41,7 @@ cast-t13 c = search needs
 returns-2 : tie.Need-returns-2
 returns-2 c =
     let a = c .before .before .before .before .before .before .before .args in
-    keep-room (joined (a .self) (a .bits .now)) _ _
+    keep-room (framingOf (a .self) (a .bits .now)) _ _
     (c .before .before .before .before .before .before .phase-after .ensures)
     (c .before .before .before .before .plain-zeros .ensures)
     _

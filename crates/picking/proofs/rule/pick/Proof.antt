@@ -1,81 +1,91 @@
--- `picking::rule::pick` meets its contract. The loop's invariant: the pick from the priorities left is the pick from all.
-use mathlib.Core.Path.{_≡_, sym, ap, _∙_}
-use Prim.Native.Nat.{_≤_}
+-- `picking::rule::pick` meets its contract. The loop's invariant: of the circuits looked at so far, the one kept has the highest rank, if any has one.
+use mathlib.Core.Bool.{Bool, true, false}
+use mathlib.Core.Logic.{⊎-elim}
+use mathlib.Core.Path.{_≡_, refl, sym}
+use Prim.Native.Nat.{ℕ, _+_, _-_, _≤_, _<_}
 use native.Mathlib.Omega.{arith}
-use borrow.Author.Needs.{needs}
-use Rattle.picking.specs.Picking.{pickFrom, pick}
-use Rattle.picking.specs.Picked.{pickOption}
-use Rattle.picking.proofs.PickingLaws.{below, pickFrom-disabled, pickFrom-some, pickFrom-none, pickFrom-pick}
+use borrow.Author.Tests.{eqb-true, eqb-false}
+use lib.Dec.{eqb}
+use Rattle.offering.specs.declared.Sender.{Sender}
+use Rattle.picking.specs.Picked.{pickOption, rank}
+use Rattle.picking.proofs.PickingLaws.{pick-nobody, pick-best}
 use Rattle.picking.proofs.rule.pick.Statement.{statement}
 use Rattle.picking.proofs.rule.pick.Tie as tie
 
+record Best (s : Sender) (enable best picked circuit : ℕ) : Type 0 where
+  pub within : circuit ≤ 4
+  pub most : (c : ℕ) → c < circuit → rank s enable c ≤ best
+  pub kept : 0 < best → (picked < 4) × (rank s enable picked ≡ best)
+
+-- one circuit more is looked at, and kept if its rank is higher
+Best-higher : {s : Sender} {enable best picked circuit r : ℕ} → Best s enable best picked circuit → circuit < 4 → r ≡ rank s enable circuit → best < r
+    → Best s enable r circuit (circuit + 1)
+Best-higher {s} {enable} {best} {picked} {circuit} {r} b l e h =
+    record { within = omega arith; most = λ c m. at c (eqb c circuit) refl m; kept = λ p. (l, sym e) }
+  where
+    at : (c : ℕ) (t : Bool) → eqb c circuit ≡ t → c < circuit + 1 → rank s enable c ≤ r
+    at c true d m = rw (eqb-true c circuit d, e) (omega arith)
+    at c false d m =
+        let other : c ≡ circuit → ⊥ = eqb-false c circuit d in
+        omega (arith, b .most c (omega arith))
+
+Best-other : {s : Sender} {enable best picked circuit r : ℕ} → Best s enable best picked circuit → circuit < 4 → r ≡ rank s enable circuit → r ≤ best
+    → Best s enable best picked (circuit + 1)
+Best-other {s} {enable} {best} {picked} {circuit} {r} b l e h =
+    record { within = omega arith; most = λ c m. at c (eqb c circuit) refl m; kept = b .kept }
+  where
+    at : (c : ℕ) (t : Bool) → eqb c circuit ≡ t → c < circuit + 1 → rank s enable c ≤ best
+    at c true d m = rw (eqb-true c circuit d, ← e) h
+    at c false d m =
+        let other : c ≡ circuit → ⊥ = eqb-false c circuit d in
+        b .most c (omega arith)
+
 abbrev Inv-loop : tie.InvT-loop
-Inv-loop sender enable priority₀ priority = (pickFrom sender enable (below priority) ≡ pick sender enable) × (priority ≤ 4)
+Inv-loop sender enable best₀ picked₀ circuit₀ best picked circuit = Best sender enable best picked circuit
 
 abbrev μ-loop : tie.MeasureT-loop
-μ-loop sender enable priority₀ priority = priority
+μ-loop sender enable best₀ picked₀ circuit₀ best picked circuit = 4 - circuit
 
 loop-holds : tie.Need-loop-holds Inv-loop μ-loop
-loop-holds c = (pickFrom-pick (c .args .sender) (c .args .enable), omega arith)
+loop-holds c = record { within = omega arith; most = λ d l. absurd (omega arith); kept = λ h. absurd (omega arith) }
 
-sub-priority : tie.Need-sub-priority Inv-loop μ-loop
-sub-priority c = omega arith
+rank-requires : tie.Need-rank-requires Inv-loop μ-loop
+rank-requires c κs = (c .before .before .pre, omega (arith, c .loop-test .taken))
 
-enabled-requires : tie.Need-enabled-requires Inv-loop μ-loop
-enabled-requires c κs = omega arith
-
-first-waiting-requires : tie.Need-first-waiting-requires Inv-loop μ-loop
-first-waiting-requires c κs = c .before .before .before .before .pre
-
-enum-told : tie.Need-enum-told Inv-loop μ-loop
-enum-told c = search needs
-
-returns : tie.Need-returns Inv-loop μ-loop
-unfolding pickOption
-returns c =
-    let b = c .before .before .before in
-    let a = b .before .before .before .before .args in
-    let inv = b .before .before .before .loop .inv in
-    let found = ap pickOption (sym (c .enum-told .given .1)) ∙ c .before .before .first-waiting .ensures in
-    ap pickOption (c .enum-told .given .1)
-    ∙ sym (pickFrom-some (a .sender) (a .enable) (b .before .before .before .loop .priority) (b .before .before .loop-test .taken) _ (sym (b .before .enabled .ensures) ∙ b .if1 .taken) (sym found))
-    ∙ inv .0
-
-enum-told-2 : tie.Need-enum-told-2 Inv-loop μ-loop
-enum-told-2 c = search needs
+add-circuit : tie.Need-add-circuit Inv-loop μ-loop
+add-circuit c = omega arith
 
 loop-less : tie.Need-loop-less Inv-loop μ-loop
 loop-less c = omega arith
 
 loop-again : tie.Need-loop-again Inv-loop μ-loop
-unfolding pickOption
 loop-again c =
-    let b = c .before .before .before in
-    let a = b .before .before .before .before .args in
-    let inv = b .before .before .before .loop .inv in
-    let found = ap pickOption (sym (c .enum-told2 .given .1)) ∙ c .before .before .first-waiting .ensures in (
-      sym (pickFrom-none (a .sender) (a .enable) (b .before .before .before .loop .priority) (b .before .before .loop-test .taken) (sym (b .before .enabled .ensures) ∙ b .if1 .taken) (sym found))
-          ∙ inv .0,
-      omega arith,
-    )
+    let l = c .before .before .before in
+    let told = c .before .rank .ensures in
+    let below : l .loop .circuit < 4 = omega (arith, c .before .before .loop-test .taken) in
+    ⊎-elim
+    (λ w. rw (w .1, w .2) (Best-higher (l .loop .inv) below told (w .0 .taken)))
+    (λ w. rw (w .1, w .2) (Best-other (l .loop .inv) below told (w .0 .left)))
+    (c .if1 .came)
 
-loop-less-2 : tie.Need-loop-less-2 Inv-loop μ-loop
-loop-less-2 c = omega arith
-
-loop-again-2 : tie.Need-loop-again-2 Inv-loop μ-loop
-loop-again-2 c =
-    let a = c .before .before .before .before .args in
-    let inv = c .before .before .before .loop .inv in (
-      sym (pickFrom-disabled (a .sender) (a .enable) (c .before .before .before .loop .priority) (c .before .before .loop-test .taken) (sym (c .before .enabled .ensures) ∙ c .if1 .left))
-          ∙ inv .0,
-      omega arith,
-    )
+returns : tie.Need-returns Inv-loop μ-loop
+unfolding pickOption
+returns c =
+    let l = c .before .before in
+    let a = l .before .args in
+    let all : l .loop .circuit ≡ 4 = omega (arith, l .loop .inv .within, c .before .loop-test .left) in
+    sym (pick-nobody (a .sender) (a .enable) (λ d m. omega (arith, l .loop .inv .most d (rw all m), c .if2 .taken)))
 
 returns-2 : tie.Need-returns-2 Inv-loop μ-loop
-unfolding pickOption pickFrom below
+unfolding pickOption
 returns-2 c =
-    let none-left : c .before .loop .priority ≡ 0 = omega arith in
-    rw none-left at (c .before .loop .inv .0)
+    let l = c .before .before in
+    let a = l .before .args in
+    let all : l .loop .circuit ≡ 4 = omega (arith, l .loop .inv .within, c .before .loop-test .left) in
+    let (small, e) = l .loop .inv .kept (omega (arith, c .if2 .left)) in
+    sym
+    (pick-best (a .sender) (a .enable) (l .loop .picked) (l .before .pre) small (rw e (omega (arith, c .if2 .left)))
+    (λ d m. rw e (l .loop .inv .most d (rw all m))))
 
 pub pick-spec : {M : Type 1} → statement M
 pick-spec =
@@ -84,14 +94,9 @@ pick-spec =
     Inv-loop
     μ-loop
     loop-holds
-    sub-priority
-    enabled-requires
-    first-waiting-requires
-    enum-told
-    returns
-    enum-told-2
+    rank-requires
+    add-circuit
     loop-less
     loop-again
-    loop-less-2
-    loop-again-2
+    returns
     returns-2)

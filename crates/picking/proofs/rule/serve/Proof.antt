@@ -1,41 +1,20 @@
 -- `picking::rule::serve` meets its contract.
 use borrow.Author.Needs.{needs}
-use Rattle.offering.specs.Record.{noSlot, slotAt}
+use Rattle.offering.specs.Record.{slotAt}
 use Rattle.picking.specs.Picking.{served}
 use Rattle.picking.proofs.rule.serve.Statement.{statement}
 use Rattle.picking.proofs.rule.serve.Tie as tie
 
-mul-advance : tie.Need-mul-advance
-mul-advance c = search needs
+advance-at-requires : tie.Need-advance-at-requires
+unfolding slotAt
+advance-at-requires c κs = c .before .before .pre
 
-array-copy-out-advance : tie.Need-array-copy-out-advance
-array-copy-out-advance c = search needs
-
-advance-requires : tie.Need-advance-requires
-unfolding slotAt noSlot
-advance-requires c κs = (c .before .before .before .pre .1, c .before .before .before .pre .2)
-
-mul-slots : tie.Need-mul-slots
-mul-slots c = search needs
-
-array-set-from-slots : tie.Need-array-set-from-slots
-array-set-from-slots c = search needs
-
-cast-t14 : tie.Need-cast-t14
-cast-t14 c = search needs
+cast-t6 : tie.Need-cast-t6
+cast-t6 c = search needs
 
 returns : tie.Need-returns
-unfolding served slotAt noSlot
-returns c = rw (c .advance .ensures)
+unfolding served slotAt
+returns c = rw (c .advance-at .ensures)
 
 pub serve-spec : {M : Type 1} → statement M
-serve-spec =
-    tie.close
-    (tie.spec
-    mul-advance
-    array-copy-out-advance
-    advance-requires
-    mul-slots
-    array-set-from-slots
-    cast-t14
-    returns)
+serve-spec = tie.close (tie.spec advance-at-requires cast-t6 returns)

@@ -9,11 +9,11 @@ use borrow.Author.Needs.{needs}
 use Rattle.sender.proofs.blocks.close.Statement.{statement}
 use Rattle.sender.proofs.blocks.close.Tie as tie
 
-sub-put-run : tie.Need-sub-put-run
-sub-put-run c = search needs
+sub-put-long-run : tie.Need-sub-put-long-run
+sub-put-long-run c = search needs
 
-put-run-requires : tie.Need-put-run-requires
-put-run-requires c κs = search needs
+put-long-run-requires : tie.Need-put-long-run-requires
+put-long-run-requires c κs = search needs
 
 add-put-run : tie.Need-add-put-run
 add-put-run c = search needs
@@ -21,11 +21,11 @@ add-put-run c = search needs
 mul-put-run : tie.Need-mul-put-run
 mul-put-run c = search needs
 
-sub-put-run-2 : tie.Need-sub-put-run-2
-sub-put-run-2 c = search needs
+sub-put-run : tie.Need-sub-put-run
+sub-put-run c = search needs
 
-put-run-requires-2 : tie.Need-put-run-requires-2
-put-run-requires-2 c κs = search needs
+put-run-requires : tie.Need-put-run-requires
+put-run-requires c κs = search needs
 
 same-length : tie.Need-same-length
 same-length c = search needs
@@ -36,18 +36,18 @@ returns c =
     let ones = zeros .before .before .before .before in
     let n = ones .before .before .before .args .n in
     record {
-      bits = zeros .put-run2 .ensures ∙ ap (λ (l : List Bool). sets l n (replicate (8 * ((n + 7) / 8) - n) false)) (ones .put-run .ensures);
+      bits = zeros .put-run .ensures ∙ ap (λ (l : List Bool). sets l n (replicate (8 * ((n + 7) / 8) - n) false)) (ones .put-long-run .ensures);
     }
 
 pub close-spec : {M : Type 1} → statement M
 close-spec =
     tie.close
     (tie.spec
-    sub-put-run
-    put-run-requires
+    sub-put-long-run
+    put-long-run-requires
     add-put-run
     mul-put-run
-    sub-put-run-2
-    put-run-requires-2
+    sub-put-run
+    put-run-requires
     same-length
     returns)

@@ -1,8 +1,10 @@
--- `sender::blocks::fits` meets its contract: where 209 bits are left every frame fits, and elsewhere the frame's bits are counted.
+-- `sender::blocks::fits` meets its contract: where 209 bits are left every frame fits, and elsewhere the frame is written and ends at its length.
 use borrow.Author.Needs.{needs}
 use denote.Ref.{now}
 use native.Mathlib.Omega.{arith}
-use Rattle.sender.proofs.FillTurn.{fits-longest, nextFrame-small}
+use native.Mathlib.Nat.{zero-add}
+use mathlib.Core.Path.{refl, _∙_}
+use Rattle.sender.proofs.FillTurn.{fits-longest, nextFrame-room, nextFrame-small}
 use Rattle.sender.proofs.blocks.fits.Statement.{statement}
 use Rattle.sender.proofs.blocks.fits.Tie as tie
 
@@ -16,22 +18,29 @@ returns c =
     let p = s .pre in
     fits-longest (a .sender) (now (a .store)) (a .circuit) (p .0) (p .1 .0) (p .1 .1 .1 .0) (p .1 .1 .0) (a .at) (a .u) (c .if1 .taken)
 
-next-length-requires : tie.Need-next-length-requires
-next-length-requires c κs = search needs
+slice-aggregate-put-next : tie.Need-slice-aggregate-put-next
+slice-aggregate-put-next c = search needs
+
+put-next-requires : tie.Need-put-next-requires
+put-next-requires c κs =
+    let s = c .before .before .before in
+    let a = s .args in
+    let p = s .pre in
+    (p .0, (p .1 .0, (p .1 .1 .0, (p .1 .1 .1 .0, nextFrame-room (a .sender) (now (a .store)) (a .circuit) (p .0) (p .1 .0) (p .1 .1 .1 .0) (p .1 .1 .0) _ refl))))
 
 add-result : tie.Need-add-result
 add-result c =
-    let s = c .before .before .before in
+    let s = c .before .before .before .before .before in
     let a = s .args in
     let p = s .pre in
     record {
       fits =
           nextFrame-small (a .sender) (now (a .store)) (a .circuit) (p .0) (p .1 .0) (p .1 .1 .1 .0) (p .1 .1 .0) (a .at)
-          (c .next-length .result) (omega (arith, p .1 .1 .1 .1)) (c .next-length .ensures);
+          (c .before .put-next .result) (omega (arith, p .1 .1 .1 .1)) (c .before .put-next .ensures .behind);
     }
 
 returns-2 : tie.Need-returns-2
-returns-2 c = rw (c .next-length .ensures)
+returns-2 c = rw (c .before .put-next .ensures .behind ∙ zero-add _)
 
 pub fits-spec : {M : Type 1} → statement M
-fits-spec = tie.close (tie.spec add-if1 returns next-length-requires add-result returns-2)
+fits-spec = tie.close (tie.spec add-if1 returns slice-aggregate-put-next put-next-requires add-result returns-2)
