@@ -170,8 +170,8 @@ fn a_bar() {
 #[ignore = "needs a terminal: tests/terminal"]
 fn the_width_of_a_bar() {
     let folder = folder("terminal-bar-width");
-    let long = File::create(folder.path("long")).unwrap();
-    long.set_len(100_000_000).unwrap();
+    // flags alone, which take longer than half a second to read
+    std::fs::write(folder.path("long"), vec![0x7e; 100_000_000]).unwrap();
     let program = env!("CARGO_BIN_EXE_aes18");
     let command = format!("'{program}' decode --circuits=01 long >out");
     for (columns, length) in [(20, 5..=5), (45, 44..=44), (120, 64..=68)] {
