@@ -1,5 +1,6 @@
 """The framer "is to hold no packet or FCS in an array before stuffing" (document 02, ask 2), and none comes back: in what the compiler makes of the sources
-of `sender` and of every crate below it (rt mir), no parameter, result, local or field is an array, whatever its elements, but of circuits and of slots, and the one into which a frame is stuffed to measure it.
+of `sender` and of every crate below it (rt mir), no parameter, result, local or field is an array, whatever its elements, but of circuits and of slots, a
+record's circuits as a list's bytes, and the one into which a frame is stuffed to measure it.
 Before that the same is asked of functions that are known to have an array or none.
 """
 import pathlib
@@ -13,8 +14,10 @@ TOP = "sender"
 # Arrays that hold no packet: a list's circuits, and a sender's slot for each.
 OTHERS = {'(tyArray (tyNamed (pair "%s" lnil)) (lenLit 4))' % name for name in ("packet::Circuit", "offering::Slot")}
 
-# Where a frame is measured, its bits are stuffed into an array: it has the packet and the FCS after stuffing alone.
-MEASURED = {"sender::blocks::fits": "(tyArray (tyInt 8) (lenLit 27))"}
+# Arrays in named functions. Where a frame is measured, its bits are stuffed into an array: it has the packet and the FCS after stuffing alone.
+# A record's circuits are judged and looked for as a list's bytes.
+NAMED = {"sender::blocks::fits": "(tyArray (tyInt 8) (lenLit 27))"}
+NAMED.update({"packet::Circuits::" + name: "(tyArray (tyInt 8) (lenLit 12))" for name in ("bytes", "number_of", "refusal")})
 
 # Functions that have an array, and functions that have none.
 WITH = """
@@ -104,7 +107,7 @@ def held():
         if name not in names or not any(function.startswith(name + "::") for function, _ in functions):
             told.add("no function of %s is looked at" % name)
         for function, text in functions:
-            others = OTHERS | {MEASURED.get(function)}
+            others = OTHERS | {NAMED.get(function)}
             told.update("%s has the array %s" % (function, array) for array in arrays(text) - others)
     return sorted(told)
 

@@ -7,12 +7,14 @@ use native.Mathlib.Omega.{arith}
 use borrow.Author.Tests.{ltb-true, ltb-false, lt-ltb, le-ltb, eqb-true}
 use lib.Dec.{ltb, eqb}
 use Rattle.offering.specs.declared.Sender.{Sender}
-use Rattle.offering.specs.Offering.{offerRefusal, offeredSender, senderAfterOffer, storeAfterOffer}
+use Rattle.offering.specs.Offering.{offerRefusal, offeredSender, senderAfterOffer}
 use Rattle.sender.specs.Blocks.{System, systemPackets, enableBits, wrongSystem, blockRefusal, senderAfterBlock, bufferAfterBlock}
-use Rattle.sender.specs.declared.Making.{Making}
-use Rattle.sender.specs.BlockCalls.{system, Allowed, madeOf, answerToBlock, BlockCalled}
+use Rattle.sender.specs.BlockCalls.{system, Allowed}
+use Rattle.sender_layout.specs.SenderBytes.{senderIn}
+use Rattle.sender_calls.specs.Calls.{recordAfterBlock, answerAfterBlock}
 use Rattle.offering.proofs.Offers.{offerRefusal-zero}
 use Rattle.sender.proofs.BlockRefusals.{accepted}
+use Rattle.sender_calls.proofs.BlocksInPlace.{BlockMade}
 
 -- a test against a number below 255
 ltb-clipped : (k n : ℕ) → k < 255 → ltb k (min n 255) ≡ ltb k n
@@ -40,16 +42,12 @@ module _ (s : Sender) (store : List ℕ) (c p r : ℕ) (m : List ℕ) where
           rw (same-p, same-r)
       go false e = refl
 
-  pub storeAfterOffer-clipped : storeAfterOffer s store c (min p 255) (min r 255) m ≡ storeAfterOffer s store c p r m
-  unfolding storeAfterOffer
-  storeAfterOffer-clipped = rw offerRefusal-clipped
-
 -- what is asked for as a system packet, with its numbers clipped
 abbrev clippedSystem : Bool → ℕ → ℕ → List ℕ → System
 clippedSystem w e c i = system w (min e 255) (min c 255) i
 
 module _ (s : Sender) (store buffer : List ℕ) (n u : ℕ) (w : Bool) (e c : ℕ) (i : List ℕ) where
-  pub blockRefusal-clipped : blockRefusal s store buffer n u (clippedSystem w e c i) ≡ blockRefusal s store buffer n u (system w e c i)
+  blockRefusal-clipped : blockRefusal s store buffer n u (clippedSystem w e c i) ≡ blockRefusal s store buffer n u (system w e c i)
   unfolding blockRefusal wrongSystem
   blockRefusal-clipped = rw (ltb-clipped 15 e (omega arith), ltb-clipped 8 c (omega arith))
 
@@ -67,23 +65,23 @@ module _ (s : Sender) (store buffer : List ℕ) (n u : ℕ) (w : Bool) (e c : �
           rw (same-e, same-c) (refl, refl)
       go false a = (refl, refl)
 
-  -- a block call answers and leaves the same
-  pub BlockCalled-clipped : {new : List ℕ} {r : Making} → BlockCalled s store buffer n u (clippedSystem w e c i) new r
-      → BlockCalled s store buffer n u (system w e c i) new r
-  unfolding senderAfterBlock bufferAfterBlock answerToBlock madeOf
-  BlockCalled-clipped {new} {r} b = go (eqb (blockRefusal s store buffer n u (system w e c i)) 0) refl
-    where
-      go : (t : Bool) → eqb (blockRefusal s store buffer n u (system w e c i)) 0 ≡ t → BlockCalled s store buffer n u (system w e c i) new r
-      go true h =
-          let (same-e, same-o) = same-system (eqb-true _ 0 h) in
-          record {
-            sender = b .sender ∙ rw (blockRefusal-clipped, same-e, same-o);
-            made = b .made ∙ rw (blockRefusal-clipped, same-e, same-o);
-            buffer = b .buffer ∙ rw (blockRefusal-clipped, same-e, same-o);
-          }
-      go false h =
-          record {
-            sender = b .sender ∙ rw (blockRefusal-clipped, h);
-            made = b .made ∙ rw (blockRefusal-clipped, h);
-            buffer = b .buffer ∙ rw (blockRefusal-clipped, h);
-          }
+-- a block call answers and leaves the same
+pub BlockMade-clipped : (bytes store : List ℕ) (n u : ℕ) (w : Bool) (e c : ℕ) (i block answer : List ℕ) {number : ℕ} {new newBlock newAnswer : List ℕ}
+    → BlockMade bytes store n u (clippedSystem w e c i) block answer number new newBlock newAnswer
+    → BlockMade bytes store n u (system w e c i) block answer number new newBlock newAnswer
+unfolding recordAfterBlock bufferAfterBlock answerAfterBlock senderAfterBlock
+BlockMade-clipped bytes store n u w e c i block answer {number} {new} {newBlock} {newAnswer} (refusal, record-is, block-is, answer-is) =
+    go (eqb (blockRefusal s store block n u (system w e c i)) 0) refl
+  where
+    s : Sender
+    s = senderIn bytes
+
+    same : blockRefusal s store block n u (clippedSystem w e c i) ≡ blockRefusal s store block n u (system w e c i)
+    same = blockRefusal-clipped s store block n u w e c i
+
+    go : (t : Bool) → eqb (blockRefusal s store block n u (system w e c i)) 0 ≡ t
+        → BlockMade bytes store n u (system w e c i) block answer number new newBlock newAnswer
+    go true h =
+        let (same-e, same-o) = same-system s store block n u w e c i (eqb-true _ 0 h) in
+        (refusal ∙ same, record-is ∙ rw (same, same-e, same-o), block-is ∙ rw (same, same-e, same-o), answer-is ∙ rw (same, same-e, same-o))
+    go false h = (refusal ∙ same, record-is ∙ rw (same, h), block-is ∙ rw (same, h), answer-is ∙ rw (same, h))

@@ -5,10 +5,7 @@ use layout::answer_number;
 use layout::clipped;
 use layout::put_number;
 use offering::Sender;
-use receiver::Read;
 use receiver::Receiver;
-use sender::Made;
-use sender::blocks::make_block;
 use serial::Written;
 use serial::writing::write;
 ghost use mathlib.Core.Path.{_≡_};
@@ -55,18 +52,9 @@ pub extern "C" fn aes18_sender_offer(
     if record.len() < sender_layout::LENGTH {
         return NO_ROOM;
     }
-    let sender = sender_layout::sender_in(record);
     let p = clipped(priority);
     let r = clipped(repetition);
-    let offered = sender.offer(store, circuit as usize, p, r, message);
-    let answer = offered.answer;
-    let number = answer_number(answer);
-    if number != 0 {
-        return number;
-    }
-    let after = offered.sender;
-    sender_layout::put_sender(record, after);
-    0
+    sender_calls::offer(record, store, circuit as usize, p, r, message)
 }
 
 // A block of n bits, of which u may be used, with a system packet where `system` is not 0. Its enable bits are in force from then on.
@@ -94,30 +82,20 @@ pub extern "C" fn aes18_sender_block(
     if answer.len() < sender_layout::ANSWER {
         return NO_ROOM;
     }
-    let sender = sender_layout::sender_in(record);
     let e = clipped(enable);
     let c = clipped(code);
-    let making = make_block(
-        sender,
+    sender_calls::block(
+        record,
         store,
-        block,
         n as usize,
         u as usize,
         system != 0,
         e,
         c,
         info,
-    );
-    let made = making.made;
-    let after = making.sender;
-    match made {
-        Made::Block { placed, used } => {
-            sender_layout::put_sender(record, after);
-            sender_layout::put_block_answer(answer, placed, used);
-            0
-        }
-        Made::Refused(number) => number as u32,
-    }
+        block,
+        answer,
+    )
 }
 
 // A receiver's record, for the circuits of a list.
@@ -160,18 +138,7 @@ pub extern "C" fn aes18_receiver_read(
     if !receiver_layout::is_receiver(record) {
         return 14;
     }
-    let receiver = receiver_layout::receiver_in(record);
-    let reading = receiver.read(store, bits, from as usize, to as usize);
-    let read = reading.read;
-    let after = reading.receiver;
-    match read {
-        Read::Told(notice) => {
-            receiver_layout::put_receiver(record, after);
-            receiver_layout::answers::put_read_answer(answer, notice, reading.bits);
-            0
-        }
-        Read::Refused(number) => number as u32,
-    }
+    receiver_calls::read(record, store, bits, from as usize, to as usize, answer)
 }
 
 // A reading call's answer is noted in a record of pass totals.

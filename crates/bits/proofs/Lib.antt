@@ -1,5 +1,5 @@
--- The laws of `bits`: stretches written into lists, the bits of bytes, one bit of a byte or of a buffer, the type of a bit reader, and tests that are
--- computed at every number below a bound.
+-- The laws of `bits`: stretches written into lists, the bits of bytes, one bit of a byte or of a buffer, the type of a bit reader, the bits that a bit writer holds,
+-- and tests that are computed at every number below a bound.
 pub mod Lists
 pub mod Bits
 pub mod BitInByte

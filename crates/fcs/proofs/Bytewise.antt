@@ -71,7 +71,7 @@ zeros-sum (suc k) u v h i =
     ∙ zeros-sum k (fcsBit u false) (fcsBit v false) (fcsBit-lt false h) (fcsBit-lt false i)
 
 -- a register whose low bits are 0 is shifted
-odd-even : (n : ℕ) → n % 2 ≡ 0 → odd n ≡ false
+pub odd-even : (n : ℕ) → n % 2 ≡ 0 → odd n ≡ false
 unfolding odd
 odd-even n e = rw e
 

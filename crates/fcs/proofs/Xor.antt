@@ -28,7 +28,7 @@ differ-assoc (suc (suc x)) y z h k l = absurd (omega arith)
 pub xor-half : (a b : ℕ) → bitXor a b / 2 ≡ bitXor (a / 2) (b / 2)
 xor-half a b = xor-shr a b 1
 
-digit-of : (n q d : ℕ) → n ≡ q * 2 + d → d < 2 → n % 2 ≡ d
+pub digit-of : (n q d : ℕ) → n ≡ q * 2 + d → d < 2 → n % 2 ≡ d
 digit-of n q d e h = omega arith
 
 xor-digit : (a b : ℕ) → bitXor a b % 2 ≡ differ (a % 2) (b % 2)

@@ -17,7 +17,7 @@ pub fn fcs_byte(register: u16, byte: u8) -> u16
 }
 
 // The register after two more bytes: what sixteen zeros make of the sum of register and bytes, in closed form.
-fn fcs_two(register: u16, low: u8, high: u8) -> u16
+pub fn fcs_two(register: u16, low: u8, high: u8) -> u16
     ensures { λ r. ⌜ r ≡ fcsRun register (byteBits low ++ byteBits high) ⌝ }
 {
     let x = register ^ (low as u16 + 256 * (high as u16));

@@ -75,7 +75,7 @@ closings-ones zero f n = refl
 closings-ones (suc k) f n = closings-ones k (step f true) (suc n)
 
 -- ones leave a fresh framing fresh
-run-fresh-ones : (k : ℕ) → run fresh (replicate k true) ≡ fresh
+pub run-fresh-ones : (k : ℕ) → run fresh (replicate k true) ≡ fresh
 unfolding run
 run-fresh-ones zero = refl
 run-fresh-ones (suc k) = ap (λ f. run f (replicate k true)) step-fresh-one ∙ run-fresh-ones k

@@ -24,9 +24,9 @@ use Rattle.framing.specs.Heads.{framingOf, outside, ReadAhead}
 use Rattle.framing.specs.Machine.{empty, fresh, phaseAfter, step, run}
 use Rattle.framing.specs.Range.{LeftBy}
 use Rattle.framing.specs.Scanning.{scan}
-use Rattle.framing.proofs.Framed.{short, long, framed, heldBits, framed-short, framed-long, framed-cases, framed-empty, phase-framed, ones-framed, step-zero, step-zero-hunting, step-fresh-one}
+use Rattle.framing.proofs.Framed.{short, long, framed, heldBits, framed-short, framed-long, framed-cases, framed-empty, phase-framed, ones-framed, step-zero, step-zero-hunting}
 use Rattle.framing.proofs.Reached.{Reached, before, hunting, opened, plain, stuffed, left-reached}
-use Rattle.framing.proofs.Resync.{Behind}
+use Rattle.framing.proofs.Resync.{Behind, run-fresh-ones}
 use Rattle.framing.proofs.ScanInRange.{LeftBy-run}
 use Rattle.framing.proofs.Stretches.{scan-past, run-body, kept-unstuffed, phaseBehind, keptBehind, phase-piece, run-hunting, scan-ones, ahead, ahead-none, ahead-more}
 
@@ -125,11 +125,6 @@ ones-word (suc k) =
     let b : (2 ^ suc k - 1) % 2 ≡ 1 = omega arith in
     rw (b, a) (ap (λ (r : List Bool). true ∷ r) (ones-word k))
 
-run-ones : (n : ℕ) → run fresh (replicate n true) ≡ fresh
-unfolding run
-run-ones zero = refl
-run-ones (suc n) = ap (λ f. run f (replicate n true)) step-fresh-one ∙ run-ones n
-
 left-fresh : LeftBy fresh
 unfolding LeftBy run
 left-fresh = ([], refl)
@@ -141,7 +136,7 @@ pub ahead-ones : (bits : List Bool) (from at to w : ℕ) → ReadAhead fresh fre
     lowBits 56 w ≡ take 56 (drop at bits) → w ≡ 2 ^ 56 - 1 → ReadAhead fresh fresh bits from (at + 56) to
 ahead-ones bits from at to w so-far h long is all =
     let ones : take 56 (drop at bits) ≡ replicate 56 true = sym is ∙ ap (lowBits 56) all ∙ ones-word 56 in
-    let left : run fresh (take 56 (drop at bits)) ≡ fresh = ap (run fresh) ones ∙ run-ones 56 in
+    let left : run fresh (take 56 (drop at bits)) ≡ fresh = ap (run fresh) ones ∙ run-fresh-ones 56 in
     let next : ReadAhead fresh (run fresh (take 56 (drop at bits))) bits at (at + 56) to =
     ahead fresh bits at 56 to left-fresh (omega arith) long
     (λ cs. ap (λ (r : List Bool). scan fresh at (r ++ cs)) ones ∙ scan-ones 56 cs at ∙ ap (λ f. scan f (at + 56) cs) (sym left)) in

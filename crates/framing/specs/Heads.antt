@@ -1,4 +1,4 @@
--- The numbers of a framing apart from its bits, as the code has them while it changes the bits in place.
+-- The numbers of a framing apart from its bits, as the code has them while it changes the bits in place, and how far bits are read at once.
 use Prim.Native.Nat.{ℕ, _≤_}
 use mathlib.Core.Bool.{Bool}
 use mathlib.Core.List.{List}

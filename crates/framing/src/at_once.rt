@@ -1,4 +1,5 @@
-// Bits read a word at a time from a framing that bits leave, as long as no six ones stand in a row: before any zero, outside a body, and in one.
+// Bits read a word at a time from a framing that bits leave: before any zero as long as they are ones, outside a body and in one as long as no six ones
+// stand in a row.
 ghost use mathlib.Core.Path.{_≡_};
 ghost use mathlib.Core.Bool.{true, false, cond};
 ghost use mathlib.Core.List.{_++_};
@@ -32,7 +33,7 @@ fn ones_ahead(bytes: &[u8], from: usize, to: usize) -> usize
     at
 }
 
-// Whether a word is there, and no sixth one in a row stands first in it.
+// If this is true, a word is there, and no sixth one in a row stands first in it.
 fn goes_on(bytes: &[u8], at: usize, to: usize, ones: usize) -> bool
     requires { ⌜ (at ≤ to) × (to ≤ 8 * length (now bytes)) ⌝ }
     ensures { λ r. ⌜ (r ≡ true → (at + 64 ≤ to) × (ones ≡ 5 → false ≡ getD (bitsOf (now (bytes .entry))) at false)) ⌝ }
@@ -125,7 +126,7 @@ impl Head {
         }
     }
 
-    // Words read from this head on, phase by phase.
+    // Words read from this head on, as its phase asks.
     fn words_ahead(self, bytes: &[u8], from: usize, to: usize, bits: &mut [u8; 21]) -> Ahead
         requires { ⌜ LeftBy (framingOf self (now bits)) ⌝ }
         requires { ⌜ (from ≤ to) × (to ≤ 8 * length (now bytes)) ⌝ }
@@ -154,6 +155,7 @@ impl Head {
         }
         self.body_ahead(bytes, from, to, bits)
     }
+
     // Words read from this head on, if its framing is known to be one that bits leave and there are any.
     pub fn ahead(
         self,

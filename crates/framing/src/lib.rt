@@ -1,8 +1,8 @@
 // Reading HDLC framing: the framing record, one step of it by a bit, the check of a closed body, and a scan over lent bytes, by words where that can be (`at_once`).
 ghost use mathlib.Core.Path.{_≡_};
 ghost use mathlib.Core.Bool.{true, false, cond};
-ghost use mathlib.Core.List.{_++_};
-ghost use Prim.Native.Nat.{_+_, _*_, _^_, _≤_, _<_};
+ghost use mathlib.Core.List.{List, _++_};
+ghost use Prim.Native.Nat.{ℕ, _+_, _*_, _^_, _≤_, _<_};
 ghost use lib.Dec.{eqb};
 ghost use lib.ListN.{length, take, drop, replicate};
 ghost use lib.Seq.{slice};
@@ -44,11 +44,11 @@ enum Verdict {
     Broken,
 }
 
-// The numbers of a framing without its bits, which a scan changes in place.
-struct Head {
-    phase: u8,
-    ones: u8,
-    count: u8,
+// The numbers of a framing without its bits, which are changed or looked at where they lie.
+pub struct Head {
+    pub phase: u8,
+    pub ones: u8,
+    pub count: u8,
 }
 
 // How far bits outside a body were read at once: the ones behind the last zero, and the number of the next bit.
@@ -155,6 +155,59 @@ impl Head {
         }
         self.zero_read(bits)
     }
+
+    // How many bits are held.
+    fn kept(self) -> usize
+        ensures { λ r. ⌜ ((bits : List ℕ) → r ≡ range.kept (framingOf self bits)) ⌝ }
+    {
+        if self.count < 169 {
+            return self.count as usize;
+        }
+        0
+    }
+
+    // What the phase asks of ones, count and bits.
+    fn phase_right(self, bits: &[u8]) -> bool
+        requires { ⌜ length (now bits) ≡ 21 ⌝ }
+        ensures { λ r. ⌜ r ≡ range.phaseRight (framingOf self (now (bits .entry))) ⌝ }
+    {
+        if self.phase == 0 {
+            if self.ones != 0 {
+                return false;
+            }
+            return self.count == 0;
+        }
+        if self.phase < 3 {
+            return self.count == 0;
+        }
+        if self.phase == 3 {
+            return true;
+        }
+        if self.phase != 4 {
+            return false;
+        }
+        if self.count == 169 {
+            return true;
+        }
+        in_fives(end_ones(bits, self.count as usize))
+    }
+
+    // Whether some bits leave the framing of this head and these bits.
+    pub fn in_range(self, bits: &[u8]) -> bool
+        requires { ⌜ length (now bits) ≡ 21 ⌝ }
+        ensures { λ r. ⌜ r ≡ range.inRange (framingOf self (now (bits .entry))) ⌝ }
+    {
+        if 7 <= self.ones {
+            return false;
+        }
+        if 170 <= self.count {
+            return false;
+        }
+        if zero_from(bits, self.kept()) {
+            return self.phase_right(bits);
+        }
+        false
+    }
 }
 
 impl Framing {
@@ -242,57 +295,12 @@ impl Framing {
         Check::Packet(n)
     }
 
-    // How many bits are held.
-    fn kept(self) -> usize
-        ensures { λ r. ⌜ r ≡ range.kept self ⌝ }
-    {
-        if self.count < 169 {
-            return self.count as usize;
-        }
-        0
-    }
-
-    // What the phase asks of ones and count.
-    fn phase_right(self) -> bool
-        ensures { λ r. ⌜ r ≡ range.phaseRight self ⌝ }
-    {
-        if self.phase == 0 {
-            if self.ones != 0 {
-                return false;
-            }
-            return self.count == 0;
-        }
-        if self.phase < 3 {
-            return self.count == 0;
-        }
-        if self.phase == 3 {
-            return true;
-        }
-        if self.phase != 4 {
-            return false;
-        }
-        if self.count == 169 {
-            return true;
-        }
-        let bits = self.bits;
-        in_fives(end_ones(bits, self.count as usize))
-    }
-
     // Whether some bits leave this framing.
     pub fn in_range(self) -> bool
         ensures { λ r. ⌜ r ≡ range.inRange self ⌝ }
     {
-        if 7 <= self.ones {
-            return false;
-        }
-        if 170 <= self.count {
-            return false;
-        }
         let bits = self.bits;
-        if zero_from(bits, self.kept()) {
-            return self.phase_right();
-        }
-        false
+        self.head().in_range(&bits)
     }
 
     // Whether this is known to be a framing that bits leave; it is asked only where there are words to read.
@@ -306,15 +314,24 @@ impl Framing {
         self.in_range()
     }
 
-    // The bits from number `from` to number `to` read, up to the first body that passes or is spoilt: words at once where that can be, and else bit by bit.
+    // The bits from number `from` to number `to` read, up to the first body that passes or is spoilt.
     pub fn scan(self, bytes: &[u8], from: usize, to: usize) -> Scan
+        requires { ⌜ (from ≤ to) × (to ≤ 8 * length (now bytes)) ⌝ }
+        ensures { λ r. ⌜ r ≡ scanning.scan self from (slice from to (bitsOf (now (bytes .entry)))) ⌝ }
+    {
+        let known = self.known(from, to);
+        self.scan_known(known, bytes, from, to)
+    }
+
+    // The same, words at once where that can be, and else bit by bit; `known` is whether bits are known to leave this framing.
+    pub fn scan_known(self, known: bool, bytes: &[u8], from: usize, to: usize) -> Scan
+        requires { ⌜ (known ≡ true → range.inRange self ≡ true) ⌝ }
         requires { ⌜ (from ≤ to) × (to ≤ 8 * length (now bytes)) ⌝ }
         ensures { λ r. ⌜ r ≡ scanning.scan self from (slice from to (bitsOf (now (bytes .entry)))) ⌝ }
     {
         let mut bits = self.bits;
         let mut head = self.head();
         let mut at = from;
-        let known = self.known(from, to);
         while at < to {
             let ahead = head.ahead(known, bytes, at, to, &mut bits);
             head = ahead.head;
@@ -371,8 +388,9 @@ fn phase_after(ones: u8) -> u8
 }
 
 // Whether every byte from number `from` on is 0.
-fn zero_bytes_from(bytes: [u8; 21], from: usize) -> bool
-    ensures { λ r. ⌜ r ≡ range.allZero (bitsOf (drop from bytes)) ⌝ }
+fn zero_bytes_from(bytes: &[u8], from: usize) -> bool
+    requires { ⌜ length (now bytes) ≡ 21 ⌝ }
+    ensures { λ r. ⌜ r ≡ range.allZero (bitsOf (drop from (now (bytes .entry)))) ⌝ }
 {
     let mut i = from;
     while i < 21 {
@@ -385,8 +403,9 @@ fn zero_bytes_from(bytes: [u8; 21], from: usize) -> bool
 }
 
 // Whether every bit from number `from` on is 0: those of its own byte, and the bytes behind that.
-fn zero_from(bytes: [u8; 21], from: usize) -> bool
-    ensures { λ r. ⌜ r ≡ range.allZero (drop from (bitsOf bytes)) ⌝ }
+fn zero_from(bytes: &[u8], from: usize) -> bool
+    requires { ⌜ length (now bytes) ≡ 21 ⌝ }
+    ensures { λ r. ⌜ r ≡ range.allZero (drop from (bitsOf (now (bytes .entry)))) ⌝ }
 {
     if 168 <= from {
         return true;
@@ -399,8 +418,9 @@ fn zero_from(bytes: [u8; 21], from: usize) -> bool
 }
 
 // How many ones end the first n bits.
-fn end_ones(bytes: [u8; 21], n: usize) -> usize
-    ensures { λ r. ⌜ r ≡ endOnes (take n (bitsOf bytes)) 0 ⌝ }
+fn end_ones(bytes: &[u8], n: usize) -> usize
+    requires { ⌜ length (now bytes) ≡ 21 ⌝ }
+    ensures { λ r. ⌜ r ≡ endOnes (take n (bitsOf (now (bytes .entry)))) 0 ⌝ }
 {
     let mut ones: usize = 0;
     let mut at: usize = 0;
@@ -408,7 +428,7 @@ fn end_ones(bytes: [u8; 21], n: usize) -> usize
         if at == 168 {
             return ones;
         }
-        if bits::get_bit(&bytes, at) {
+        if bits::get_bit(bytes, at) {
             ones += 1;
         } else {
             ones = 0;

@@ -8,7 +8,7 @@ use native.Mathlib.Omega.{arith}
 use lib.ListN.{length, take}
 use lib.Seq.{sets, slice}
 use lib.Dec.{ltb}
-use borrow.Author.Tests.{lt-ltb, le-ltb, ltb-false, ne-eqb}
+use borrow.Author.Tests.{lt-ltb, le-ltb, ltb-false, ne-eqb, not-false}
 use Rattle.bits.specs.Bits.{bitsOf}
 use Rattle.bits.proofs.Tests.{or-left, or-right}
 use Rattle.framing.specs.declared.Framing.{Framing}
@@ -52,6 +52,10 @@ module _ (f : Framing) (bits : List ℕ) (from to : ℕ) where
   none-holds false true h = absurd (omega arith)
   none-holds false false h = (refl, refl)
 
+  pub in-range : framingRefusal f bits from to ≡ 0 → inRange f ≡ true
+  unfolding framingRefusal
+  in-range h = not-false (inRange f) (none-holds (not (inRange f)) (ltb to from || ltb (8 * length bits) to) h .0)
+
   pub before-scan : framingRefusal f bits from to ≡ 0 → (from ≤ to) × (to ≤ 8 * length bits)
   unfolding framingRefusal
   before-scan h =
@@ -81,18 +85,15 @@ module _ (bytes bits : List ℕ) (from to : ℕ) (packet answer : List ℕ) wher
       (number ≡ framingRefusal (framingIn bytes 0) bits from to) × (new ≡ framingAfter bytes bits from to)
       × (newPacket ≡ packetAfter bytes bits from to packet) × (newAnswer ≡ answerAfter bytes bits from to answer)
 
-  module _ {f : Framing} (in-is : f ≡ framingIn bytes 0) {number : ℕ} (is : number ≡ framingRefusal f bits from to) where
-    numbered : framingRefusal (framingIn bytes 0) bits from to ≡ number
-    numbered = rw (← in-is) (sym is)
-
+  module _ {number : ℕ} (is : number ≡ framingRefusal (framingIn bytes 0) bits from to) where
     pub read-refused : (number ≡ 0 → ⊥) → CallRead number bytes packet answer
     unfolding framingAfter packetAfter answerAfter
-    read-refused some = rw (numbered, ne-eqb number 0 some) (refl, refl, refl, refl)
+    read-refused some = rw (← is, ne-eqb number 0 some) (refl, refl, refl, refl)
 
-    pub read-scanned : number ≡ 0 → {s : Scan} → s ≡ framingScan f bits from to → {new newPacket newAnswer : List ℕ}
+    pub read-scanned : number ≡ 0 → {f : Framing} → f ≡ framingIn bytes 0 → {s : Scan} → s ≡ framingScan f bits from to → {new newPacket newAnswer : List ℕ}
         → new ≡ sets bytes 0 (framingBytes (s .framing)) → {n : ℕ} → n ≡ lengthGiven (s .check) → newPacket ≡ sets packet 0 (take n (s .bytes))
         → newAnswer ≡ sets answer 0 (framingAnswerBytes (s .check) (s .at - from)) → CallRead 0 new newPacket newAnswer
     unfolding framingAfter packetAfter answerAfter
-    read-scanned none scanned new-is long packet-is answer-is =
-        let number-0 : framingRefusal (framingIn bytes 0) bits from to ≡ 0 = numbered ∙ none in
+    read-scanned none in-is scanned new-is long packet-is answer-is =
+        let number-0 : framingRefusal (framingIn bytes 0) bits from to ≡ 0 = sym is ∙ none in
         rw (number-0, ← in-is, ← scanned) (refl, new-is, packet-is ∙ rw long, answer-is)

@@ -6,17 +6,18 @@ ghost use Rattle.layout.specs.Layout.{packetLength};
 ghost use Rattle.framing_layout.specs.FramingBytes.{framingLength, framingIn, framingAnswerLength};
 ghost use Rattle.framing_layout.specs.Reading.{framingRefusal, framingAfter, packetAfter, answerAfter};
 use super::framing_in;
+use super::in_range;
 use super::length_given;
 use super::put_answer;
 use super::put_framing;
-use framing::Framing;
 use layout::put_packet;
 
 // Why a reading call is refused, by number; 0 if it is accepted.
-fn refusal(framing: Framing, bits: &[u8], from: usize, to: usize) -> u8
-    ensures { λ r. ⌜ r ≡ framingRefusal framing (now (bits .entry)) from to ⌝ }
+fn refusal(record: &[u8], bits: &[u8], from: usize, to: usize) -> u8
+    requires { ⌜ framingLength ≤ length (now «record») ⌝ }
+    ensures { λ r. ⌜ r ≡ framingRefusal (framingIn (now («record» .entry)) 0) (now (bits .entry)) from to ⌝ }
 {
-    if !framing.in_range() {
+    if !in_range(record, 0) {
         return 14;
     }
     if to < from {
@@ -43,12 +44,12 @@ pub fn read(
         × (now (packet .exit) ≡ packetAfter (now («record» .entry)) (now (bits .entry)) from to (now (packet .entry)))
         × (now (answer .exit) ≡ answerAfter (now («record» .entry)) (now (bits .entry)) from to (now (answer .entry))) ⌝ }
 {
-    let framing = framing_in(record, 0);
-    let number = refusal(framing, bits, from, to);
+    let number = refusal(record, bits, from, to);
     if number != 0 {
         return number as u32;
     }
-    let scan = framing.scan(bits, from, to);
+    let framing = framing_in(record, 0);
+    let scan = framing.scan_known(true, bits, from, to);
     let after = scan.framing;
     let check = scan.check;
     let bytes = scan.bytes;

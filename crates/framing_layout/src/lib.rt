@@ -6,9 +6,11 @@ ghost use mathlib.Core.Path.{_≡_};
 ghost use Prim.Native.Nat.{_+_, _≤_};
 ghost use lib.ListN.{length};
 ghost use lib.Seq.{sets};
+ghost use Rattle.framing.specs.Range.{inRange};
 ghost use Rattle.framing_layout.specs.FramingBytes.{framingLength, framingBytes, framingIn, framingAnswerLength, stopNumber, lengthGiven, framingAnswerBytes};
 use framing::Check;
 use framing::Framing;
+use framing::Head;
 use layout::low_byte;
 use layout::put_number;
 
@@ -30,6 +32,19 @@ pub fn framing_in(bytes: &[u8], at: usize) -> Framing
         count: bytes[at + 2],
         bits: kept,
     }
+}
+
+// The framing whose bytes begin with byte `at` is one that bits leave.
+pub fn in_range(bytes: &[u8], at: usize) -> bool
+    requires { ⌜ at + framingLength ≤ length (now bytes) ⌝ }
+    ensures { λ r. ⌜ r ≡ inRange (framingIn (now (bytes .entry)) at) ⌝ }
+{
+    let head = Head {
+        phase: bytes[at],
+        ones: bytes[at + 1],
+        count: bytes[at + 2],
+    };
+    head.in_range(&bytes[at + 3..at + 24])
 }
 
 // The framing's bytes go to byte `at` and those behind it.

@@ -3,7 +3,7 @@ use Prim.Native.Nat.{ℕ, _+_, _-_, _*_, _/_, _%_, _^_, _≤_, _<_}
 use native.Mathlib.Omega.{arith}
 use mathlib.Core.Bool.{Bool, true, not, cond, _&&_, _||_}
 use mathlib.Core.List.{List}
-use mathlib.Core.Path.{_≡_, refl, _∙_}
+use mathlib.Core.Path.{_≡_, refl}
 use lib.Count.{leadingZeros, trailingZeros}
 use lib.Dec.{leb, ltb, eqb}
 use lib.ListN.{length}
@@ -14,7 +14,6 @@ use Rattle.bits.proofs.Computed.{all-below, each-below}
 use Rattle.bits.proofs.Tests.{and-left, and-right, or-then, or-else}
 use Rattle.hdlc.specs.Stuffing.{stuffFrom, freeAfter}
 use Rattle.hdlc.specs.Chunks.{fiveOnes, StuffedByte}
-use Rattle.hdlc.specs.declared.chunks.Chunk.{Chunk}
 
 -- what the code computes of a byte b with f ones free before it
 abbrev pub shifted : ℕ → ℕ → ℕ
@@ -41,14 +40,10 @@ secondZero f b = firstZero f b + trailingZeros 32 (second f b) + 6
 abbrev pub two : ℕ → ℕ → ℕ
 two f b = withZero (one f b) (secondZero f b)
 
-abbrev pub zerosAbove : ℕ → ℕ → ℕ
-zerosAbove value len = leadingZeros 32 (2 ^ len - 1 - value)
-
 -- these bits are the byte stuffed
 right : ℕ → ℕ → ℕ → ℕ → Bool
 right f b value len =
-    eqb (length (stuffFrom (byteBits b) f)) len && eqb (numberOf (stuffFrom (byteBits b) f)) value && leb (zerosAbove value len) (36 - len) &&
-    eqb (36 - len - zerosAbove value len) (freeAfter (byteBits b) f)
+    eqb (length (stuffFrom (byteBits b) f)) len && eqb (numberOf (stuffFrom (byteBits b) f)) value
 
 -- with no zero, one zero and two zeros put in
 noneRight : ℕ → ℕ → Bool
@@ -61,15 +56,15 @@ twoRight : ℕ → ℕ → Bool
 twoRight f b = eqb (first f b) 0 || (eqb (second f b) 0 || (leb (secondZero f b) 9 && right f b (two f b) 10))
 
 none-computed : all-below (λ f. all-below (noneRight f) 256) 5 ≡ true
-unfolding all-below noneRight right stuffFrom freeAfter leadingZeros byteBits lowBits odd numberOf bitValue
+unfolding all-below noneRight right stuffFrom byteBits lowBits odd numberOf bitValue
 none-computed = refl
 
 one-computed : all-below (λ f. all-below (oneRight f) 256) 5 ≡ true
-unfolding all-below oneRight right stuffFrom freeAfter leadingZeros trailingZeros byteBits lowBits odd numberOf bitValue
+unfolding all-below oneRight right stuffFrom trailingZeros byteBits lowBits odd numberOf bitValue
 one-computed = refl
 
 two-computed : all-below (λ f. all-below (twoRight f) 256) 5 ≡ true
-unfolding all-below twoRight right stuffFrom freeAfter leadingZeros trailingZeros byteBits lowBits odd numberOf bitValue
+unfolding all-below twoRight right stuffFrom trailingZeros byteBits lowBits odd numberOf bitValue
 two-computed = refl
 
 -- the ones free behind a byte, by the ones that end it
@@ -89,23 +84,17 @@ free-computed = refl
 -- these bits are the byte stuffed
 pub record Right (f b value len : ℕ) : Type 0 where
   pub bits : lowBits len value ≡ stuffFrom (byteBits b) f
-  pub behind : 36 - len - zerosAbove value len ≡ freeAfter (byteBits b) f
   pub fits : value < 2 ^ len
-  pub few : zerosAbove value len ≤ 36 - len
 
 right-at : (f b value len : ℕ) → right f b value len ≡ true → Right f b value len
 unfolding right
 right-at f b value len t =
     let s : List Bool = stuffFrom (byteBits b) f in
-    let u : (eqb (length s) len && eqb (numberOf s) value && leb (zerosAbove value len) (36 - len)) ≡ true = and-left _ _ t in
-    let v : (eqb (length s) len && eqb (numberOf s) value) ≡ true = and-left _ _ u in
-    let long : length s ≡ len = eqb-true _ _ (and-left _ _ v) in
-    let number : numberOf s ≡ value = eqb-true _ _ (and-right (eqb (length s) len) _ v) in
+    let long : length s ≡ len = eqb-true _ _ (and-left _ _ t) in
+    let number : numberOf s ≡ value = eqb-true _ _ (and-right (eqb (length s) len) _ t) in
     record {
       bits = rw (← long, ← number) (lowBits-of s);
-      behind = eqb-true _ _ (and-right (eqb (length s) len && eqb (numberOf s) value && leb (zerosAbove value len) (36 - len)) _ t);
       fits = rw (← long, ← number) (numberOf-fits s);
-      few = leb-true _ _ (and-right (eqb (length s) len && eqb (numberOf s) value) _ u);
     }
 
 -- the tests at a byte
@@ -164,13 +153,5 @@ module _ (f b : ℕ) (few : f ≤ 4) (byte : b < 256) where
       two-right = right-at f b (two f b) 10 (and-right (leb (secondZero f b) 9) _ two-tests)
 
 -- so is the chunk of these bits
-pub StuffedByte-of : {f b value len : ℕ} (c : Chunk) → Right f b value len → 8 ≤ len → len ≤ 10
-    → (c .value ≡ value) × (c .len ≡ len) × (c .free ≡ 36 - len - zerosAbove value len) → StuffedByte f b c
-StuffedByte-of c r least most e =
-    record {
-      bits = rw (e .0, e .1) (r .bits);
-      behind = e .2 ∙ r .behind;
-      fits = rw (e .0, e .1) (r .fits);
-      least = rw (e .1) least;
-      most = rw (e .1) most;
-    }
+pub StuffedByte-of : {f b value len : ℕ} → Right f b value len → 8 ≤ len → len ≤ 10 → StuffedByte f b (record { value = value; len = len })
+StuffedByte-of r least most = record { bits = r .bits; fits = r .fits; least = least; most = most }

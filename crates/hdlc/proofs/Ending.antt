@@ -1,18 +1,22 @@
 -- The end of a frame and a whole frame, written piece by piece.
-use Prim.Native.Nat.{ℕ, _+_, _/_, _%_}
+use Prim.Native.Nat.{ℕ, _*_, _/_, _%_, _<_}
+use native.Mathlib.Omega.{arith}
 use mathlib.Core.Bool.{Bool}
 use mathlib.Core.List.{List, _++_, append-nil, append-assoc}
 use mathlib.Core.Path.{_≡_}
-use lib.ListN.{length}
+use lib.ListN.{length, length-append}
 use Rattle.bits.specs.Bits.{byteBits, bitsOf}
+use Rattle.bits.specs.declared.writer.BitWriter.{BitWriter}
 use Rattle.bits.proofs.Bits.{length-byteBits, bitsOf-append}
 use Rattle.fcs.specs.Fcs.{preset, complement, fcsOf, lowFirst}
-use Rattle.hdlc.specs.Stuffing.{stuff}
+use Rattle.hdlc.specs.Stuffing.{stuffFrom, stuff}
 use Rattle.hdlc.specs.Frames.{flag, withFcs, frame}
 use Rattle.hdlc.specs.Writing.{Room, Written, Put, Stuffed, stuffedBy, penAfter, ending}
+use Rattle.hdlc.specs.Chunks.{WriterRoom, WriterPut}
 use Rattle.hdlc.specs.declared.Pen.{Pen}
 use Rattle.hdlc.proofs.Stuffing.{stuffFrom-append}
 use Rattle.hdlc.proofs.Writing.{Written-append, Stuffed-Put, Room-front, Room-back, Room-first, Room-next}
+use Rattle.hdlc.proofs.ByWriter.{WriterRoom-first, WriterRoom-next, WriterPut-append}
 
 -- a flag has eight bits
 pub length-flag : length flag ≡ 8
@@ -48,6 +52,26 @@ module _ {old : List ℕ} (pen : Pen) (r : Room old (pen .at) (ending pen)) wher
 pub Written-ending : {old mid new : List ℕ} {p : Pen} {end : ℕ} (pen : Pen) →
     Put old pen (low pen ++ high pen) mid p → Written mid (p .at) flag new end → Written old (pen .at) (ending pen) new end
 Written-ending pen s w = rw (ending-bytes pen) (Written-append (stuffedBy pen (low pen ++ high pen)) flag (s .written) w)
+
+-- the same with one bit writer
+pub Room-at : {old : List ℕ} (pen : Pen) → Room old (pen .at) (ending pen) → pen .at < 8 * length old
+Room-at pen r =
+    let fcs = stuffedBy pen (low pen ++ high pen) in
+    omega (arith, rw (ending-bytes pen) at (r .within), length-append fcs flag, length-flag)
+
+module _ {old : List ℕ} (pen : Pen) {w : BitWriter} where
+  pub WriterRoom-fcs : WriterRoom old w (ending pen) → WriterRoom old w (stuffFrom (low pen ++ high pen) (pen .free))
+  unfolding stuffedBy
+  WriterRoom-fcs r = WriterRoom-first (stuffFrom (low pen ++ high pen) (pen .free)) flag (rw (ending-bytes pen) at r)
+
+  module _ {mid : List ℕ} {v : BitWriter} (p : WriterPut old w (stuffFrom (low pen ++ high pen) (pen .free)) mid v) where
+    pub WriterRoom-flag : WriterRoom old w (ending pen) → length mid ≡ length old → WriterRoom mid v flag
+    unfolding stuffedBy
+    WriterRoom-flag r e = WriterRoom-next (stuffFrom (low pen ++ high pen) (pen .free)) flag (rw (ending-bytes pen) at r) p e
+
+    pub WriterPut-ending : {new : List ℕ} {u : BitWriter} → WriterPut mid v flag new u → WriterPut old w (ending pen) new u
+    unfolding stuffedBy
+    WriterPut-ending q = rw (ending-bytes pen) (WriterPut-append (stuffFrom (low pen ++ high pen) (pen .free)) flag p q)
 
 -- a frame and its flag, from a new pen: the packet, and what ends it
 module _ (packet : List ℕ) {at : ℕ} {pen : Pen} (n : (pen .at ≡ at) × (pen .free ≡ 4) × (pen .fcs ≡ 0xffff)) where

@@ -1,24 +1,14 @@
--- Bytes written in turn: what a straight sequence of calls keeps. `Going` holds from the start, each piece takes it on, and with the last
--- piece all is written.
+-- Bytes written in turn: what a straight sequence of calls keeps. `Going` holds from the start, and each piece takes it on.
 use Prim.Native.Nat.{ℕ}
 use mathlib.Core.Bool.{Bool}
-use mathlib.Core.List.{List, [], _∷_, _++_}
-use mathlib.Core.Path.{_≡_, refl, sym, ap, _∙_}
+use mathlib.Core.List.{List, [], _++_}
+use mathlib.Core.Path.{_≡_, refl, sym, _∙_}
 use lib.ListN.{length}
-use Rattle.bits.specs.Bits.{byteBits, bitsOf}
-use Rattle.bits.proofs.Bits.{bitsOf-append}
+use Rattle.bits.specs.Bits.{bitsOf}
 use Rattle.hdlc.specs.Writing.{Room, Stuffed, stuffedBy}
 use Rattle.hdlc.specs.declared.Pen.{Pen}
 use Rattle.hdlc.proofs.Writing.{Stuffed-Put, Put-nil, Room-first, Room-next}
 use Rattle.hdlc.proofs.PenAfter.{Stuffed-append, penAfter-nil}
-
--- the bits of a byte and of those behind it, and of a list in two pieces
-pub bitsOf-cons : (b : ℕ) (bs : List ℕ) → bitsOf (b ∷ bs) ≡ byteBits b ++ bitsOf bs
-unfolding bitsOf
-bitsOf-cons b bs = refl
-
-pub bitsOf-pieces : {l : List ℕ} (a b : List ℕ) → l ≡ a ++ b → bitsOf l ≡ bitsOf a ++ bitsOf b
-bitsOf-pieces a b e = ap bitsOf e ∙ bitsOf-append a b
 
 -- there is room for the bytes that are left, and to write them from here is to write all from the start
 pub record Going (old : List ℕ) (pen : Pen) (all : List ℕ) (buffer : List ℕ) (here : Pen) (left : List ℕ) : Type 0 where
@@ -46,15 +36,3 @@ module _ {old buffer : List ℕ} {pen here : Pen} {all left : List ℕ} (g : Goi
         room = Room-next a (bitsOf bs) (Stuffed-Put a s) l (rw e at (g .room));
         rest = λ new last t. g .rest new last (rw e (Stuffed-append a (bitsOf bs) s t));
       }
-
-  -- the last piece
-  pub Going-room-last : (a : List Bool) → bitsOf left ≡ a → Room buffer (here .at) (stuffedBy here a)
-  Going-room-last a e = rw e at (g .room)
-
-  pub Going-last : {new : List ℕ} {next : Pen} (a : List Bool) → bitsOf left ≡ a → Stuffed buffer here a new next
-      → Stuffed old pen (bitsOf all) new next
-  Going-last {new} {next} a e s = g .rest new next (rw e s)
-
-  -- nothing is left
-  pub Going-end : bitsOf left ≡ [] → Stuffed old pen (bitsOf all) buffer here
-  Going-end e = Going-last [] e (Stuffed-nil buffer here)

@@ -3,11 +3,13 @@ pub mod NoSix
 pub mod Stuffing
 pub mod Writing
 pub mod OneBit
-pub mod Ending
 pub mod PenAfter
 pub mod InTurn
 pub mod ByteTable
+pub mod FiveOnes
 pub mod ByWriter
+pub mod Ending
+pub mod Leads
 pub mod WithFcs
 pub mod FrameLength
 pub mod StuffedInTwo

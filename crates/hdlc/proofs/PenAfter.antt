@@ -21,7 +21,7 @@ at-append : (pen : Pen) (a b : List Bool) →
 at-append pen a b = rw (stuffFrom-append, length-append) (omega arith)
 
 -- two pieces in turn are written as one
-pub penAfter-append : (pen : Pen) (a b : List Bool) → penAfter pen (a ++ b) ≡ penAfter (penAfter pen a) b
+penAfter-append : (pen : Pen) (a b : List Bool) → penAfter pen (a ++ b) ≡ penAfter (penAfter pen a) b
 unfolding penAfter stuffedBy
 penAfter-append pen a b =
     λ i.

@@ -27,7 +27,7 @@ Written-append {old} {mid} {new} {at} {between} {end} a b v w =
     }
 
 -- the same for pieces that are stuffed
-pub stuffedBy-append : (pen next : Pen) (a b : List Bool) →
+stuffedBy-append : (pen next : Pen) (a b : List Bool) →
     next .free ≡ freeAfter a (pen .free) → stuffedBy pen (a ++ b) ≡ stuffedBy pen a ++ stuffedBy next b
 unfolding stuffedBy
 stuffedBy-append pen next a b e = rw e (stuffFrom-append a b (pen .free))

@@ -5,3 +5,4 @@ pub mod Bodies
 pub mod Writing
 pub mod Cuts
 pub mod Chunks
+pub mod Leads

@@ -1,16 +1,16 @@
 // A byte's bits stuffed at once, as a number. A byte and the ones before it have at most two runs of five ones.
+ghost use mathlib.Core.Bool.{true};
+ghost use mathlib.Core.List.{_++_};
 ghost use mathlib.Core.Path.{_≡_};
 ghost use Prim.Native.Nat.{_+_, _-_, _*_, _/_, _%_, _^_, _≤_, _<_};
-ghost use lib.Count.{leadingZeros};
 ghost use Rattle.bits.specs.Bits.{byteBits};
 ghost use Rattle.hdlc.specs.Chunks.{fiveOnes, StuffedByte};
-ghost use Rattle.hdlc.specs.Stuffing.{freeAfter};
+ghost use Rattle.hdlc.specs.Stuffing.{stuffFrom, freeAfter};
 
-// Stuffed bits, lowest first, how many they are, and how many ones may come behind them before the one that gets a 0 behind it.
+// Stuffed bits, lowest first, and how many they are.
 pub struct Chunk {
     pub value: u32,
     pub len: usize,
-    pub free: u8,
 }
 
 // Where five ones in a row begin among a number's bits.
@@ -30,19 +30,6 @@ fn with_zero(x: u32, k: usize) -> u32
     x % low + x / low * bits::power(k + 1)
 }
 
-// The chunk of these bits, of which at most four ones stand behind the last 0.
-fn ended(value: u32, len: usize) -> Chunk
-    requires { ⌜ (value < 2 ^ len) × (len ≤ 10) × (leadingZeros 32 (2 ^ len - 1 - value) ≤ 36 - len) ⌝ }
-    ensures { λ r. ⌜ (r .value ≡ value) × (r .len ≡ len) × (r .free ≡ 36 - len - leadingZeros 32 (2 ^ len - 1 - value)) ⌝ }
-{
-    let zeros = u32::leading_zeros(bits::power(len) - 1 - value);
-    Chunk {
-        value: value,
-        len: len,
-        free: (36 - len - zeros as usize) as u8,
-    }
-}
-
 impl Chunk {
     // A byte stuffed, where so many ones may come before the one that gets a 0 behind it.
     pub fn of(free: u8, byte: u8) -> Chunk
@@ -52,18 +39,21 @@ impl Chunk {
         let whole = byte as u32;
         let first = five_ones(((whole + 1) << (4 - free)) - 1);
         if first == 0 {
-            return ended(whole, 8);
+            return Chunk {
+                value: whole,
+                len: 8,
+            };
         }
         let k = u32::trailing_zeros(first) as usize + free as usize + 1;
         let one = with_zero(whole, k);
         let second = five_ones(whole >> k);
         if second == 0 {
-            return ended(one, 9);
+            return Chunk { value: one, len: 9 };
         }
-        ended(
-            with_zero(one, k + u32::trailing_zeros(second) as usize + 6),
-            10,
-        )
+        Chunk {
+            value: with_zero(one, k + u32::trailing_zeros(second) as usize + 6),
+            len: 10,
+        }
     }
 }
 
@@ -80,4 +70,13 @@ pub fn free_behind(free: u8, byte: u8) -> u8
         return 4 - ones as u8;
     }
     9 - ones as u8
+}
+
+// If this is true, two bytes get no 0, where so many ones may come before the one that gets a 0 behind it.
+pub fn plain_two(free: u8, low: u8, high: u8) -> bool
+    requires { ⌜ free ≤ 4 ⌝ }
+    ensures { λ r. ⌜ (r ≡ true → stuffFrom (byteBits low ++ byteBits high) free ≡ byteBits low ++ byteBits high) ⌝ }
+{
+    let both = low as u32 + 256 * (high as u32);
+    five_ones(((both + 1) << (4 - free)) - 1) == 0
 }

@@ -1,12 +1,16 @@
 // Writing HDLC frames into a lent buffer: bits are stuffed as the bytes are known, and no packet or FCS is kept.
 ghost use mathlib.Core.Path.{_≡_};
 ghost use mathlib.Core.List.{[], _∷_, _++_};
+ghost use Prim.Native.Nat.{_≤_};
 ghost use Rattle.bits.specs.Bits.{byteBits, bitsOf};
+ghost use Rattle.hdlc.specs.Stuffing.{stuffFrom};
 ghost use Rattle.hdlc.specs.Frames.{flag, frame};
+ghost use Rattle.hdlc.specs.Chunks.{WriterRoom, WriterPut};
 ghost use Rattle.hdlc.specs.Writing.{Room, Written, Put, Stuffed, stuffedBy, ending};
 
 mod chunks;
 mod cuts;
+pub mod led;
 
 use bits::writer::BitWriter;
 use chunks::Chunk;
@@ -31,7 +35,7 @@ impl Pen {
     }
 }
 
-// One bit written at the pen, and a 0 behind it if it is the fifth one in a row. The FCS register is left to `stuff_byte`.
+// One bit written at the pen, and a 0 behind it if it is the fifth one in a row. The FCS register is left to `stuff_by_bits`.
 fn stuff_bit(buf: &mut [u8], pen: Pen, bit: bool) -> Pen
     requires { ⌜ Room (now buf) (pen .at) (stuffedBy pen (bit ∷ [])) ⌝ }
     ensures { λ r. ⌜ (Put (now (buf .entry)) pen (bit ∷ []) (now (buf .exit)) r) × (r .fcs ≡ pen .fcs) ⌝ }
@@ -81,26 +85,7 @@ fn stuff_by_bits(buf: &mut [u8], pen: Pen, byte: u8) -> Pen
     }
 }
 
-// The bits of a byte written at the pen, stuffed, lowest first: at once, unless the pen is none that a frame leaves.
-pub fn stuff_byte(buf: &mut [u8], pen: Pen, byte: u8) -> Pen
-    requires { ⌜ Room (now buf) (pen .at) (stuffedBy pen (byteBits byte)) ⌝ }
-    ensures { λ r. ⌜ Stuffed (now (buf .entry)) pen (byteBits byte) (now (buf .exit)) r ⌝ }
-{
-    let at = pen.at;
-    let free = pen.free;
-    if 4 < free {
-        return stuff_by_bits(buf, pen, byte);
-    }
-    let chunk = Chunk::of(free, byte);
-    let writer = BitWriter::new(buf, at).put(buf, chunk.len, chunk.value);
-    Pen {
-        at: writer.close(buf),
-        free: chunk.free,
-        fcs: fcs::fcs_byte(pen.fcs, byte),
-    }
-}
-
-// The bits of bytes written at the pen, stuffed, one byte after another.
+// The bits of bytes written at the pen bit by bit, stuffed.
 fn stuff_in_turn(buf: &mut [u8], pen: Pen, bytes: &[u8]) -> Pen
     requires { ⌜ Room (now buf) (pen .at) (stuffedBy pen (bitsOf (now bytes))) ⌝ }
     ensures { λ r. ⌜ Stuffed (now (buf .entry)) pen (bitsOf (now (bytes .entry))) (now (buf .exit)) r ⌝ }
@@ -108,13 +93,34 @@ fn stuff_in_turn(buf: &mut [u8], pen: Pen, bytes: &[u8]) -> Pen
     let mut p = pen;
     let mut i: usize = 0;
     while i < bytes.len() {
-        p = stuff_byte(buf, p, bytes[i]);
+        p = stuff_by_bits(buf, p, bytes[i]);
         i += 1;
     }
     p
 }
 
-// The bits of bytes written at the pen, stuffed: with one bit writer, unless the pen is none that a frame leaves.
+// A byte put with a bit writer, stuffed, where so many ones may come before the one that gets a 0 behind it.
+fn put_one(buf: &mut [u8], writer: BitWriter, free: u8, byte: u8) -> BitWriter
+    requires { ⌜ (free ≤ 4) × WriterRoom (now buf) writer (stuffFrom (byteBits byte) free) ⌝ }
+    ensures { λ r. ⌜ WriterPut (now (buf .entry)) writer (stuffFrom (byteBits byte) free) (now (buf .exit)) r ⌝ }
+{
+    let chunk = Chunk::of(free, byte);
+    writer.put(buf, chunk.len, chunk.value)
+}
+
+// Two bytes put with a bit writer, stuffed: at once, if neither gets a 0.
+fn put_two(buf: &mut [u8], writer: BitWriter, free: u8, low: u8, high: u8) -> BitWriter
+    requires { ⌜ (free ≤ 4) × WriterRoom (now buf) writer (stuffFrom (byteBits low ++ byteBits high) free) ⌝ }
+    ensures { λ r. ⌜ WriterPut (now (buf .entry)) writer (stuffFrom (byteBits low ++ byteBits high) free) (now (buf .exit)) r ⌝ }
+{
+    if chunks::plain_two(free, low, high) {
+        return writer.put(buf, 16, low as u32 + 256 * (high as u32));
+    }
+    let first = put_one(buf, writer, free, low);
+    put_one(buf, first, chunks::free_behind(free, low), high)
+}
+
+// The bits of bytes written at the pen, stuffed: with one bit writer and two bytes at a time, unless the pen is none that a frame leaves.
 pub fn stuff_bytes(buf: &mut [u8], pen: Pen, bytes: &[u8]) -> Pen
     requires { ⌜ Room (now buf) (pen .at) (stuffedBy pen (bitsOf (now bytes))) ⌝ }
     ensures { λ r. ⌜ Stuffed (now (buf .entry)) pen (bitsOf (now (bytes .entry))) (now (buf .exit)) r ⌝ }
@@ -130,13 +136,19 @@ pub fn stuff_bytes(buf: &mut [u8], pen: Pen, bytes: &[u8]) -> Pen
     let mut fcs = pen.fcs;
     let mut writer = BitWriter::new(buf, at);
     let mut i: usize = 0;
-    while i < bytes.len() {
-        let byte = bytes[i];
-        let chunk = Chunk::of(free, byte);
-        writer = writer.put(buf, chunk.len, chunk.value);
-        free = chunks::free_behind(free, byte);
-        fcs = fcs::fcs_byte(fcs, byte);
-        i += 1;
+    while 2 <= bytes.len() - i {
+        let low = bytes[i];
+        let high = bytes[i + 1];
+        writer = put_two(buf, writer, free, low, high);
+        free = chunks::free_behind(chunks::free_behind(free, low), high);
+        fcs = fcs::fcs_two(fcs, low, high);
+        i += 2;
+    }
+    if i < bytes.len() {
+        let last = bytes[i];
+        writer = put_one(buf, writer, free, last);
+        free = chunks::free_behind(free, last);
+        fcs = fcs::fcs_byte(fcs, last);
     }
     Pen {
         at: writer.close(buf),
@@ -154,15 +166,25 @@ pub fn put_flag(buf: &mut [u8], at: usize) -> usize
     writer.close(buf)
 }
 
-// The end of a frame written at the pen: the FCS of what the pen has written, low byte first, and a flag.
+// The end of a frame written at the pen: the FCS of what the pen has written, low byte first, and a flag; with one bit writer, unless the pen is none that a frame leaves.
 pub fn end_frame(buf: &mut [u8], pen: Pen) -> usize
     requires { ⌜ Room (now buf) (pen .at) (ending pen) ⌝ }
     ensures { λ r. ⌜ Written (now (buf .entry)) (pen .at) (ending pen) (now (buf .exit)) r ⌝ }
 {
+    let at = pen.at;
+    let free = pen.free;
     let fcs = 0xffff - pen.fcs;
-    let p = stuff_byte(buf, pen, (fcs % 256) as u8);
-    let q = stuff_byte(buf, p, (fcs / 256) as u8);
-    put_flag(buf, q.at)
+    let low = (fcs % 256) as u8;
+    let high = (fcs / 256) as u8;
+    if 4 < free {
+        let p = stuff_by_bits(buf, pen, low);
+        let q = stuff_by_bits(buf, p, high);
+        return put_flag(buf, q.at);
+    }
+    let first = put_one(buf, BitWriter::new(buf, at), free, low);
+    let writer = put_one(buf, first, chunks::free_behind(free, low), high);
+    let flagged = writer.put(buf, 8, 0x7e);
+    flagged.close(buf)
 }
 
 // A packet's frame written at bit `at`, and the flag behind it.

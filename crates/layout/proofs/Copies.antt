@@ -10,15 +10,20 @@ use lib.Seq.{sets, slice, length-take-le, take-add, drop-at}
 use Rattle.bits.proofs.Lists.{sets-append, sets-behind}
 use Rattle.layout.specs.Layout.{lowBytes}
 
--- n elements from f on, copied over a list of n
+-- n elements from f on
+pub part-slice : {A : Type 0} (l : List A) (f n : ℕ) → f + n ≤ length l → take n (drop f l) ≡ slice f (f + n) l
+part-slice l f n inside =
+    let front : length (take f l) ≡ f = length-take-le f l (omega arith) in
+    rw (take-add, drop-at (take f l) (take n (drop f l)) f front)
+
+-- the same, copied over a list of n
 pub copied-part : {A : Type 0} (l d : List A) (f n : ℕ) → f + n ≤ length l → length d ≡ n → sets d 0 (take n (drop f l)) ≡ slice f (f + n) l
 copied-part l d f n inside long =
-    let front : length (take f l) ≡ f = length-take-le f l (omega arith) in
     let part : length (take n (drop f l)) ≡ n = length-take-le n (drop f l) (omega (arith, length-drop f l)) in
     let fits : length (take n (drop f l)) ≤ length d = omega arith in
     let over : length d ≤ length (take n (drop f l)) = omega arith in
     sets-behind [] d (take n (drop f l)) fits
-    ∙ rw (drop-of-length-le d over, append-nil, take-add, drop-at (take f l) (take n (drop f l)) f front)
+    ∙ rw (drop-of-length-le d over, append-nil) (part-slice l f n inside)
 
 -- ---- parts written one behind the other
 

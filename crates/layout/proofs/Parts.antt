@@ -1,17 +1,19 @@
 -- Laws of what the layouts share: bytes and numbers, arrays of four, circuits, and bytes that are read one by one.
 use mathlib.Core.Path.{_≡_, refl, sym, _∙_}
-use Prim.Native.Nat.{ℕ, zero, suc, _+_, _*_, _/_, _%_, _^_, _≤_, _<_}
+use Prim.Native.Nat.{ℕ, zero, suc, _+_, _-_, _*_, _/_, _%_, _^_, _≤_, _<_}
 use native.Mathlib.Nat.{add-zero}
 use native.Mathlib.Numerals.{add-one}
 use native.Mathlib.Omega.{arith}
 use mathlib.Core.List.{List, [], _∷_, _++_}
-use lib.ListN.{length}
-use lib.Seq.{slice, slice-cons}
+use lib.ListN.{length, take, drop}
+use lib.Seq.{slice, slice-cons, take-length, take-append-le}
 use Rattle.bits.specs.Bits.{Bytes}
 use Rattle.bits.proofs.Bits.{getD-Bytes}
 use Rattle.packet.specs.Lists.{AllAre}
 use Rattle.packet.specs.declared.Circuit.{Circuit}
 use Rattle.packet.specs.declared.Circuits.{Circuits}
+use Rattle.packet.specs.Circuits.{circuitsOf, listed}
+use Rattle.packet.proofs.CircuitLists.{circuitsOf-take}
 use Rattle.layout.specs.Layout.{lowBytes, byteAt, numberAt, circuitBytes, circuitFrom, circuitsBytes, circuitsIn}
 use Rattle.layout.specs.Fits.{Four, CircuitFits, CircuitsFit}
 
@@ -123,3 +125,13 @@ read-slice (suc n) bytes at to h k =
     let rest : readOn n bytes (suc at) (slice (suc at + n) to bytes) ≡ slice (suc at) to bytes = read-slice n bytes (suc at) to (omega arith) k in
     let step : at + suc n ≡ suc at + n = omega arith in
     rw (step, rest) (sym (slice-cons at to bytes 0 (omega arith) k))
+
+-- the circuits that a record begins with, at most four, are those of the bytes behind their number
+pub circuits-behind : (bytes : List ℕ) → 13 ≤ length bytes → circuitsIn bytes .count ≤ 4
+    → circuitsOf (take (1 + 3 * circuitsIn bytes .count - 1) (drop 1 bytes)) ≡ listed (circuitsIn bytes)
+unfolding circuitsIn circuitFrom circuitsOf listed
+circuits-behind bytes long few =
+    let twelve : readOn 12 bytes 1 (drop 13 bytes) ≡ drop 1 bytes = rw take-length at (read-slice 12 bytes 1 (length bytes) long (omega arith)) in
+    let cs = circuitsIn bytes in
+    let size : 1 + 3 * cs .count - 1 ≡ 3 * cs .count = omega arith in
+    rw (size, circuitsOf-take (cs .count) (drop 1 bytes), ← twelve) (take-append-le (cs .count) (cs .list) (circuitsOf (drop 13 bytes)) few)

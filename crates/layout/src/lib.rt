@@ -1,14 +1,19 @@
 // What records and answers share in bytes: numbers of several bytes, the circuits of a record and the place for a packet.
 
+ghost use mathlib.Core.Bool.{_&&_};
 ghost use mathlib.Core.Path.{_≡_};
 ghost use Prim.Native.Nat.{_+_, _%_, _≤_, min};
+ghost use lib.Dec.{leb, eqb};
 ghost use lib.ListN.{length, take};
 ghost use lib.Seq.{sets};
 ghost use Rattle.packet.specs.Answers.{answerNumber};
+ghost use Rattle.packet.specs.Circuits.{circuitsRefusal, listed, numberFrom, foundOption};
 ghost use Rattle.layout.specs.Layout.{lowBytes, numberAt, circuitFrom, circuitsBytes, circuitsIn, packetLength};
 use packet::Answer;
 use packet::Circuit;
 use packet::Circuits;
+use packet::Found;
+use packet::circuit_lists;
 
 // The length of the place for a packet.
 pub const PACKET: usize = 19;
@@ -60,6 +65,29 @@ pub fn circuits_in(bytes: &[u8]) -> Circuits
         count: bytes[0],
         list: [first, second, third, fourth],
     }
+}
+
+// The circuits that a record begins with are at most four, and listing refuses them by none of 2, 3 and 4.
+pub fn circuits_in_range(bytes: &[u8]) -> bool
+    requires { ⌜ 13 ≤ length (now bytes) ⌝ }
+    ensures { λ r. ⌜ r ≡ (leb (circuitsIn (now (bytes .entry)) .count) 4 && eqb (circuitsRefusal (listed (circuitsIn (now (bytes .entry))))) 0) ⌝ }
+{
+    let count = bytes[0] as usize;
+    if 4 < count {
+        return false;
+    }
+    let end = 1 + 3 * count;
+    circuit_lists::refusal(&bytes[1..end]) == 0
+}
+
+// The number of a circuit among those that a record begins with.
+pub fn number_in(bytes: &[u8], circuit: Circuit) -> Found
+    requires { ⌜ (13 ≤ length (now bytes)) × (circuitsIn (now bytes) .count ≤ 4) ⌝ }
+    ensures { λ r. ⌜ foundOption r ≡ numberFrom (listed (circuitsIn (now (bytes .entry)))) circuit 0 ⌝ }
+{
+    let count = bytes[0] as usize;
+    let end = 1 + 3 * count;
+    circuit_lists::number_in(&bytes[1..end], circuit)
 }
 
 // The bytes of a record's circuits.

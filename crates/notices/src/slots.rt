@@ -6,7 +6,7 @@ ghost use Rattle.notices.specs.Slots.{slotInRange, slotsInRange};
 use super::Slot;
 
 // The slot is in range.
-fn slot_in_range(t: Slot) -> bool
+pub fn slot_in_range(t: Slot) -> bool
     ensures { λ r. ⌜ r ≡ slotInRange t ⌝ }
 {
     if 7 < t.last {

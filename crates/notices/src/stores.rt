@@ -44,7 +44,7 @@ fn write_part(store: &mut [u8], circuit: usize, t: Slot, p: &[u8])
 }
 
 // The store after a circuit's packet.
-fn write_fate(store: &mut [u8], fate: Fate, circuit: usize, t: Slot, p: &[u8])
+pub fn write_fate(store: &mut [u8], fate: Fate, circuit: usize, t: Slot, p: &[u8])
     requires { ⌜ (circuit < 4) × (slotInRange t ≡ true) × (storeLength ≤ length (now store)) × (2 ≤ length (now p))
         × (lead (now p) < length (now p)) × (length (now p) ≤ 19) ⌝ }
     ensures { λ r. ⌜ now (store .exit) ≡ storeAfterFate fate circuit t (now (p .entry)) (now (store .entry)) ⌝ }
@@ -60,7 +60,7 @@ fn write_fate(store: &mut [u8], fate: Fate, circuit: usize, t: Slot, p: &[u8])
 }
 
 // A system packet's information goes behind the regions.
-fn write_system(store: &mut [u8], p: &[u8])
+pub fn write_system(store: &mut [u8], p: &[u8])
     requires { ⌜ (storeLength ≤ length (now store)) × (2 ≤ length (now p)) × (lead (now p) < length (now p)) × (length (now p) ≤ 19) ⌝ }
     ensures { λ r. ⌜ now (store .exit) ≡ sets (now (store .entry)) systemPlace (information (now (p .entry))) ⌝ }
 {

@@ -1,6 +1,6 @@
 -- Offers: what is known of one that is accepted, and what a refused and an accepted one leave.
 use mathlib.Core.Path.{_≡_, refl}
-use Prim.Native.Nat.{ℕ, suc, _≤_, _<_}
+use Prim.Native.Nat.{ℕ, suc, _+_, _*_, _≤_, _<_}
 use native.Mathlib.Omega.{arith}
 use mathlib.Core.Bool.{Bool, true, false, cond}
 use mathlib.Core.List.{List}
@@ -13,6 +13,7 @@ use Rattle.packet.specs.Stores.{region}
 use Rattle.offering.specs.declared.Sender.{Sender}
 use Rattle.offering.specs.Record.{slotAt, pending, inRange, storeLength}
 use Rattle.offering.specs.Offering.{offerRefusal, offeredSender, offeredStore, senderAfterOffer, storeAfterOffer}
+use Rattle.offering.proofs.Ranges.{inRange-facts}
 
 -- what is known where an offer is accepted
 pub record OfferFacts (s : Sender) (store : List ℕ) (c p r : ℕ) (m : List ℕ) : Type 0 where
@@ -49,6 +50,14 @@ module _ (s : Sender) (store : List ℕ) (c p r : ℕ) (m : List ℕ) where
         message = ltb-false _ _ t₉;
         free = t₁₀;
       }
+
+  -- the circuit is one of four, and the message has its place in the circuit's region
+  pub offer-room : offerRefusal s store c p r m ≡ 0 → (c < 4) × (length m ≤ longest) × (region * c + length m ≤ length store)
+  unfolding region longest
+  offer-room e =
+      let facts = offerRefusal-zero e in
+      let four = inRange-facts _ (facts .inRange) in
+      (omega arith, omega arith, omega arith)
 
   -- the answer, the record and the store of a refused offer, whose number is n
   pub offer-refused : (n : ℕ) → n ≡ offerRefusal s store c p r m → (n ≡ 0 → ⊥)

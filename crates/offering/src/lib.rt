@@ -12,6 +12,7 @@ pub mod slots;
 
 use packet::Answer;
 use packet::Circuits;
+use slots::offered_slot;
 use slots::pending;
 
 // What a circuit has to send (specs/Record.antt has the meaning of each field).
@@ -131,16 +132,7 @@ impl Sender {
         let circuits = self.circuits;
         let mut slots = self.slots;
         let t = slots[circuit];
-        let packets = packet::packets(message.len()) as u16;
-        slots[circuit] = Slot {
-            index: t.index,
-            priority,
-            repetition,
-            copy: 0,
-            length: message.len() as u16,
-            place: 0,
-            left: packets,
-        };
+        slots[circuit] = offered_slot(t, priority, repetition, message);
         Sender {
             circuits,
             slots,

@@ -1,7 +1,10 @@
 // A slot has a copy to place or none, and slots and records are in range or not.
 ghost use mathlib.Core.Path.{_≡_};
 ghost use Prim.Native.Nat.{_≤_};
+ghost use lib.ListN.{length};
+ghost use Rattle.packet.specs.Messages.{longest};
 ghost use Rattle.offering.specs.Record.{pending, slotInRange, slotsInRange, inRange, PendingIffLeft};
+ghost use Rattle.offering.specs.Offering.{offeredSlot};
 use super::Sender;
 use super::Slot;
 
@@ -13,7 +16,7 @@ pub fn pending(t: Slot) -> bool
 }
 
 // The slot is in range.
-fn slot_in_range(t: Slot) -> bool
+pub fn slot_in_range(t: Slot) -> bool
     ensures { λ r. ⌜ r ≡ slotInRange t ⌝ }
 {
     if 7 < t.index {
@@ -54,6 +57,23 @@ fn slots_in_range(slots: [Slot; 4], count: usize) -> bool
         i += 1;
     }
     true
+}
+
+// The slot with a message to send.
+pub fn offered_slot(t: Slot, priority: u8, repetition: u8, message: &[u8]) -> Slot
+    requires { ⌜ length (now message) ≤ longest ⌝ }
+    ensures { λ r. ⌜ r ≡ offeredSlot t priority repetition (now (message .entry)) ⌝ }
+{
+    let packets = packet::packets(message.len()) as u16;
+    Slot {
+        index: t.index,
+        priority,
+        repetition,
+        copy: 0,
+        length: message.len() as u16,
+        place: 0,
+        left: packets,
+    }
 }
 
 // In range a message is pending exactly if packets are left.

@@ -9,41 +9,32 @@ use mathlib.Core.Option.{none, some, Option·some-injective, Option·none-ne-som
 use mathlib.Core.Path.{_≡_, refl, ap, sym, _∙_}
 use borrow.Author.Tests.{ltb-false, eq-eqb, ne-eqb, eqb-true, eqb-false}
 use lib.Dec.{ltb, eqb}
-use lib.ListN.{length, take, drop, getD, set, replicate, length-take, length-drop, drop-of-length-le}
-use lib.Seq.{sets, drop-cons, take-append-seam, getD-take, take-take}
+use lib.ListN.{length, take, drop, getD, set, replicate, length-take, drop-of-length-le}
+use lib.Seq.{sets, take-all, drop-cons, take-append-seam, getD-take, take-take}
 use Rattle.bits.proofs.Tests.{or-left, or-right}
 use Rattle.packet.specs.declared.Circuit.{Circuit}
 use Rattle.packet.specs.declared.Circuits.{Circuits}
 use Rattle.packet.specs.Circuits.{circuitsOf, wrongLength, addressFF, wrongExtension, alike, twoAlike, circuitsRefusal, listRefusal, listed, noCircuit, recordOf, listing, numberFrom}
 use Rattle.packet.specs.Lists.{anyOf, firstFrom}
+use Rattle.packet.proofs.Lists.{take-min}
 
--- what is left of the first n of a list from place i on: it begins with the element at i, and is empty from its end on
-module _ {ℓ} {A : Type ℓ} where
-  drop-take-cons : (i n : ℕ) (l : List A) (d : A) → i < n → i < length l
-      → drop i (take n l) ≡ getD l i d ∷ drop (i + 1) (take n l)
-  drop-take-cons i n l d below inside =
-      let short : i < length (take n l) = rw length-take (omega arith) in
-      rw (drop-cons (take n l) i d short, getD-take n l i d below, add-one)
-
-  drop-take-nil : (i n : ℕ) (l : List A) → min n (length l) ≤ i → drop i (take n l) ≡ []
-  drop-take-nil i n l h =
-      let short : length (take n l) ≤ i = rw length-take h in
-      drop-of-length-le (take n l) short
+-- what is left of a list from place i on begins with the element at i
+drop-next : {A : Type 0} (l : List A) (i : ℕ) (d : A) → i < length l → drop i l ≡ getD l i d ∷ drop (i + 1) l
+drop-next l i d h = rw add-one (drop-cons l i d h)
 
 -- a search over what is left: it ends at an element that passes, goes on behind one that does not, and finds none at the end
-module _ {A : Type 0} (test : A → Bool) (i n : ℕ) (l : List A) (d : A) where
-  pub firstFrom-found : i < n → i < length l → test (getD l i d) ≡ true → firstFrom test (drop i (take n l)) i ≡ some i
+module _ {A : Type 0} (test : A → Bool) (i : ℕ) (l : List A) (d : A) where
+  pub firstFrom-found : i < length l → test (getD l i d) ≡ true → firstFrom test (drop i l) i ≡ some i
   unfolding firstFrom
-  firstFrom-found below inside e = rw (drop-take-cons i n l d below inside, e)
+  firstFrom-found inside e = rw (drop-next l i d inside, e)
 
-  pub firstFrom-next : i < n → i < length l → test (getD l i d) ≡ false
-      → firstFrom test (drop i (take n l)) i ≡ firstFrom test (drop (i + 1) (take n l)) (i + 1)
+  pub firstFrom-next : i < length l → test (getD l i d) ≡ false → firstFrom test (drop i l) i ≡ firstFrom test (drop (i + 1) l) (i + 1)
   unfolding firstFrom
-  firstFrom-next below inside e = rw (drop-take-cons i n l d below inside, e)
+  firstFrom-next inside e = rw (drop-next l i d inside, e)
 
-  pub firstFrom-end : min n (length l) ≤ i → firstFrom test (drop i (take n l)) i ≡ none
+  pub firstFrom-end : length l ≤ i → firstFrom test (drop i l) i ≡ none
   unfolding firstFrom
-  firstFrom-end h = rw (drop-take-nil i n l h)
+  firstFrom-end h = rw (drop-of-length-le l h)
 
 -- what a search finds: some element passes, and the number is an element's; or none passes
 module _ {A : Type 0} (test : A → Bool) where
@@ -68,55 +59,68 @@ module _ {A : Type 0} (test : A → Bool) where
       go false f later = later f
 
 -- two alike among what is left: sought behind each circuit in turn
-module _ (i n : ℕ) (l : List Circuit) where
-  pub twoAlike-found : i < n → i < length l → anyOf (alike (getD l i noCircuit)) (drop (i + 1) (take n l)) ≡ true
-      → twoAlike (drop i (take n l)) ≡ true
+module _ (i : ℕ) (l : List Circuit) where
+  pub twoAlike-found : i < length l → anyOf (alike (getD l i noCircuit)) (drop (i + 1) l) ≡ true → twoAlike (drop i l) ≡ true
   unfolding twoAlike
-  twoAlike-found below inside e = rw (drop-take-cons i n l noCircuit below inside, e)
+  twoAlike-found inside e = rw (drop-next l i noCircuit inside, e)
 
-  pub twoAlike-next : i < n → i < length l → anyOf (alike (getD l i noCircuit)) (drop (i + 1) (take n l)) ≡ false
-      → twoAlike (drop i (take n l)) ≡ twoAlike (drop (i + 1) (take n l))
+  pub twoAlike-next : i < length l → anyOf (alike (getD l i noCircuit)) (drop (i + 1) l) ≡ false → twoAlike (drop i l) ≡ twoAlike (drop (i + 1) l)
   unfolding twoAlike
-  twoAlike-next below inside e = rw (drop-take-cons i n l noCircuit below inside, e)
+  twoAlike-next inside e = rw (drop-next l i noCircuit inside, e)
 
-  pub twoAlike-end : min n (length l) ≤ i → twoAlike (drop i (take n l)) ≡ false
+  pub twoAlike-end : length l ≤ i → twoAlike (drop i l) ≡ false
   unfolding twoAlike
-  twoAlike-end h = rw (drop-take-nil i n l h)
+  twoAlike-end h = rw (drop-of-length-le l h)
 
--- the circuits of what is left of bytes: three more bytes are one more circuit, and fewer are none
-drop-next : (l : List ℕ) (j k : ℕ) → j < length l → j + 1 ≡ k → drop j l ≡ getD l j 0 ∷ drop k l
-drop-next l j k h e = rw (← e, add-one) (drop-cons l j 0 h)
+-- ---- the circuits of bytes, three bytes to a circuit
 
-circuitsOf-cons : (bs : List ℕ) (i : ℕ) → 3 * i + 2 < length bs
-    → circuitsOf (drop (3 * i) bs)
-    ≡ record { address = getD bs (3 * i) 0; extended = getD bs (3 * i + 1) 0; extension = getD bs (3 * i + 2) 0 } ∷ circuitsOf (drop (3 * (i + 1)) bs)
+-- the first i
+pub circuitsOf-take : (i : ℕ) (bs : List ℕ) → circuitsOf (take (3 * i) bs) ≡ take i (circuitsOf bs)
 unfolding circuitsOf
-circuitsOf-cons bs i h =
-    rw (
-      drop-next bs (3 * i) (3 * i + 1) (omega arith) (omega arith),
-      drop-next bs (3 * i + 1) (3 * i + 2) (omega arith) (omega arith),
-      drop-next bs (3 * i + 2) (3 * (i + 1)) (omega arith) (omega arith),
-    )
+circuitsOf-take zero bs = refl
+circuitsOf-take (suc i) [] = rw (take-all {A = ℕ} (3 * suc i) [] (omega arith))
+circuitsOf-take (suc i) (a ∷ []) = rw (take-all (3 * suc i) (a ∷ []) (omega arith))
+circuitsOf-take (suc i) (a ∷ e ∷ []) = rw (take-all (3 * suc i) (a ∷ e ∷ []) (omega arith))
+circuitsOf-take (suc i) (a ∷ e ∷ x ∷ bs) =
+    let three : 3 * suc i ≡ suc (suc (suc (3 * i))) = omega arith in
+    rw (three, circuitsOf-take i bs)
 
-circuitsOf-short : (l : List ℕ) → length l ≤ 2 → circuitsOf l ≡ []
+-- the circuit with number i
+pub circuitsOf-at : (bs : List ℕ) (i : ℕ) → 3 * i + 3 ≤ length bs
+    → record { address = getD bs (3 * i) 0; extended = getD bs (3 * i + 1) 0; extension = getD bs (3 * i + 2) 0 } ≡ getD (circuitsOf bs) i noCircuit
 unfolding circuitsOf
-circuitsOf-short [] h = refl
-circuitsOf-short (a ∷ []) h = refl
-circuitsOf-short (a ∷ e ∷ []) h = refl
-circuitsOf-short (a ∷ e ∷ x ∷ l) h = absurd (omega arith)
-
-circuitsOf-nil : (bs : List ℕ) (i : ℕ) → length bs ≤ 3 * i + 2 → circuitsOf (drop (3 * i) bs) ≡ []
-circuitsOf-nil bs i h =
-    let short : length (drop (3 * i) bs) ≤ 2 = rw length-drop (omega arith) in
-    circuitsOf-short (drop (3 * i) bs) short
+circuitsOf-at [] i h = absurd (omega arith)
+circuitsOf-at (a ∷ []) i h = absurd (omega arith)
+circuitsOf-at (a ∷ e ∷ []) i h = absurd (omega arith)
+circuitsOf-at (a ∷ e ∷ x ∷ bs) zero h = refl
+circuitsOf-at (a ∷ e ∷ x ∷ bs) (suc i) h =
+    let address : 3 * suc i ≡ suc (suc (suc (3 * i))) = omega arith in
+    let extended : 3 * suc i + 1 ≡ suc (suc (suc (3 * i + 1))) = omega arith in
+    let extension : 3 * suc i + 2 ≡ suc (suc (suc (3 * i + 2))) = omega arith in
+    rw (extended, extension, address) (circuitsOf-at bs i (omega arith))
 
 -- the number of circuits of bytes
-length-circuitsOf : (bs : List ℕ) → (3 * length (circuitsOf bs) ≤ length bs) × (length bs ≤ 3 * length (circuitsOf bs) + 2)
+pub length-circuitsOf : (bs : List ℕ) → (3 * length (circuitsOf bs) ≤ length bs) × (length bs ≤ 3 * length (circuitsOf bs) + 2)
 unfolding circuitsOf
 length-circuitsOf [] = omega arith
 length-circuitsOf (a ∷ []) = omega arith
 length-circuitsOf (a ∷ e ∷ []) = omega arith
 length-circuitsOf (a ∷ e ∷ x ∷ bs) = omega (arith, length-circuitsOf bs)
+
+-- four circuits, one by one; those of them that are listed, from the bytes of all four
+pub four-circuits : (l : List Circuit) → length l ≡ 4 → getD l 0 noCircuit ∷ getD l 1 noCircuit ∷ getD l 2 noCircuit ∷ getD l 3 noCircuit ∷ [] ≡ l
+four-circuits [] h = absurd (omega arith)
+four-circuits (a ∷ []) h = absurd (omega arith)
+four-circuits (a ∷ b ∷ []) h = absurd (omega arith)
+four-circuits (a ∷ b ∷ c ∷ []) h = absurd (omega arith)
+four-circuits (a ∷ b ∷ c ∷ d ∷ []) h = refl
+four-circuits (a ∷ b ∷ c ∷ d ∷ e ∷ l) h = absurd (omega arith)
+
+pub circuitsOf-listed : (cs : Circuits) (bs : List ℕ) (n : ℕ) → length (cs .list) ≡ 4 → circuitsOf bs ≡ cs .list → n ≡ 3 * min (cs .count) 4
+    → circuitsOf (take n bs) ≡ listed cs
+unfolding listed
+circuitsOf-listed cs bs n four e count =
+    rw (count, circuitsOf-take (min (cs .count) 4) bs, e, ← four) (take-min (cs .count) (cs .list))
 
 -- circuits stored in turn over four empty places are the record of them
 recordOf-list : (cs : List Circuit) → length cs ≤ 4 → sets (replicate 4 noCircuit) 0 cs ≡ recordOf cs .list
@@ -128,39 +132,28 @@ recordOf-list (a ∷ b ∷ c ∷ []) h = refl
 recordOf-list (a ∷ b ∷ c ∷ d ∷ []) h = refl
 recordOf-list (a ∷ b ∷ c ∷ d ∷ e ∷ cs) h = absurd (omega arith)
 
--- the first i circuits of bytes are stored in a list's first i places: storing those that are left there gives all of them
-abbrev pub Stored : List ℕ → List Circuit → ℕ → Type 0
-Stored bs list i =
-    (length (circuitsOf bs) ≡ i + length (circuitsOf (drop (3 * i) bs)))
-    × (sets list i (circuitsOf (drop (3 * i) bs)) ≡ sets (replicate 4 noCircuit) 0 (circuitsOf bs))
+-- the first i circuits are stored in a list's first i places: storing those that are left there gives all of them
+abbrev pub Stored : List Circuit → List Circuit → ℕ → Type 0
+Stored cs list i = (i ≤ length cs) × (sets list i (drop i cs) ≡ sets (replicate 4 noCircuit) 0 cs)
 
 -- one more is stored, and at the end the list is the record's
 sets-cons : (l : List Circuit) (i : ℕ) (a : Circuit) (rest : List Circuit) → sets (set l i a) (i + 1) rest ≡ sets l i (a ∷ rest)
 sets-cons l i a rest = rw (add-one i)
 
-pub Stored-next : (bs : List ℕ) (list : List Circuit) (i : ℕ) → 3 * i + 2 < length bs → Stored bs list i
-    → Stored bs
-    (set list i (record { address = getD bs (3 * i) 0; extended = getD bs (3 * i + 1) 0; extension = getD bs (3 * i + 2) 0 }))
-    (i + 1)
-Stored-next bs list i h stored =
-    let step = circuitsOf-cons bs i h in
-    let count : length (circuitsOf bs) ≡ i + suc (length (circuitsOf (drop (3 * (i + 1)) bs))) = rw step at (stored .0) in
-    (omega arith, sets-cons list i _ (circuitsOf (drop (3 * (i + 1)) bs)) ∙ rw step at (stored .1))
+pub Stored-next : (cs list : List Circuit) (i : ℕ) → i < length cs → Stored cs list i → Stored cs (set list i (getD cs i noCircuit)) (i + 1)
+Stored-next cs list i h stored =
+    (omega arith, sets-cons list i _ (drop (i + 1) cs) ∙ rw (drop-next cs i noCircuit h) at (stored .1))
 
 circuits-eq : (m n : ℕ) (a b : List Circuit) → m ≡ n → a ≡ b
     → _≡_ {A = Circuits} (record { count = m; list = a }) (record { count = n; list = b })
 circuits-eq m n a b p q = cc
 
-pub Stored-end : (bs : List ℕ) (list : List Circuit) (i : ℕ) → length bs ≤ 12 → length bs ≤ 3 * i + 2 → Stored bs list i
-    → record { count = i; list = list } ≡ recordOf (circuitsOf bs)
+pub Stored-end : (cs list : List Circuit) (i : ℕ) → length cs ≤ 4 → length cs ≤ i → Stored cs list i → record { count = i; list = list } ≡ recordOf cs
 unfolding recordOf
-Stored-end bs list i short end stored =
-    let none = circuitsOf-nil bs i end in
-    let count : length (circuitsOf bs) ≡ i + 0 = rw none at (stored .0) in
-    let all : i ≡ length (circuitsOf bs) = omega arith in
-    let few : length (circuitsOf bs) ≤ 4 = omega (arith, length-circuitsOf bs) in
-    let same : list ≡ sets (replicate 4 noCircuit) 0 (circuitsOf bs) = rw none at (stored .1) in
-    circuits-eq i (length (circuitsOf bs)) list (recordOf (circuitsOf bs) .list) all (same ∙ recordOf-list (circuitsOf bs) few)
+Stored-end cs list i few end stored =
+    let all : i ≡ length cs = omega arith in
+    let same : list ≡ sets (replicate 4 noCircuit) 0 cs = rw (drop-of-length-le cs end) at (stored .1) in
+    circuits-eq i (length cs) list (recordOf cs .list) all (same ∙ recordOf-list cs few)
 
 -- ---- circuits that are alike
 
@@ -257,16 +250,14 @@ pub listed-recordOf : (cs : List Circuit) → length cs ≤ 4 → listed (record
 unfolding listed recordOf
 listed-recordOf cs h = rw (take-take (length cs) 4 (cs ++ replicate 4 noCircuit) h) (take-append-seam cs (replicate 4 noCircuit))
 
--- the refusal of a list by its length, or by its circuits' record
+-- the refusal of a list by its length, or by its circuits
 pub listRefusal-length-wrong : (bs : List ℕ) → wrongLength (length bs) ≡ true → listRefusal bs ≡ 1
 unfolding listRefusal
 listRefusal-length-wrong bs e = rw e
 
-pub listRefusal-listed : (bs : List ℕ) → wrongLength (length bs) ≡ false → listRefusal bs ≡ circuitsRefusal (listed (recordOf (circuitsOf bs)))
+pub listRefusal-length-right : (bs : List ℕ) → wrongLength (length bs) ≡ false → listRefusal bs ≡ circuitsRefusal (circuitsOf bs)
 unfolding listRefusal
-listRefusal-listed bs e =
-    let few : length (circuitsOf bs) ≤ 4 = omega (arith, length-circuitsOf bs, wrongLength-false (length bs) e) in
-    rw (e, listed-recordOf (circuitsOf bs) few)
+listRefusal-length-right bs e = rw e
 
 -- a listing has the list's circuits if it accepts it; it has at most four, and none that listing refuses
 pub listing-accepted : (bs : List ℕ) → listRefusal bs ≡ 0 → listing bs ≡ recordOf (circuitsOf bs)

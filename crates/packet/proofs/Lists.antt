@@ -1,9 +1,13 @@
--- Lists all of whose elements are so, or pass a test.
-use Prim.Native.Nat.{ℕ, zero, suc}
+-- Lists all of whose elements are so, or pass a test; a list's first elements.
+use Prim.Native.Nat.{ℕ, zero, suc, _≤_, _<_, min}
+use native.Mathlib.Omega.{arith}
 use mathlib.Core.List.{List, [], _∷_, _++_}
-use lib.ListN.{take, set, replicate}
-use mathlib.Core.Bool.{Bool}
-use mathlib.Core.Path.{refl}
+use mathlib.Core.Bool.{Bool, true, false}
+use mathlib.Core.Path.{_≡_, refl, sym, _∙_}
+use borrow.Author.Tests.{leb-true, leb-false}
+use lib.Dec.{leb}
+use lib.ListN.{length, take, set, replicate}
+use lib.Seq.{take-all}
 use Rattle.bits.proofs.Each.{Each}
 use Rattle.packet.specs.Lists.{allOf, AllAre}
 
@@ -39,3 +43,17 @@ module _ {A : Type 0} (P : A → Type 0) where
   AllAre-set [] i x h k = tt
   AllAre-set (y ∷ l) zero x h k = (h, k .1)
   AllAre-set (y ∷ l) (suc i) x h k = (k .0, AllAre-set l i x h (k .1))
+
+-- the first n of a list, which may have fewer
+pub take-min : {A : Type 0} (n : ℕ) (l : List A) → take (min n (length l)) l ≡ take n l
+take-min n l = go (leb n (length l)) refl
+  where
+    go : (t : Bool) → leb n (length l) ≡ t → take (min n (length l)) l ≡ take n l
+    go true e =
+        let h : n ≤ length l = leb-true n (length l) e in
+        let least : min n (length l) ≡ n = omega arith in
+        rw least
+    go false e =
+        let h : length l < n = leb-false n (length l) e in
+        let least : length l ≤ min n (length l) = omega arith in
+        take-all (min n (length l)) l least ∙ sym (take-all n l (omega arith))

@@ -13,6 +13,7 @@ use lib.Seq.{take-all, take-add, take-append-add, drop-append-add}
 use Rattle.bits.specs.Bits.{Bytes}
 use Rattle.bits.proofs.Bits.{Bytes-append, Bytes-take, Bytes-drop}
 use Rattle.packet.specs.Messages.{longest, header, headed, segment, segmentsUpTo, partFrom, partOf, packets, linkOf}
+use Rattle.packet.proofs.Lists.{take-min}
 
 -- the header of a short message and of a long one
 pub header-short : (n : ℕ) → n ≤ 15 → header n ≡ n ∷ []
@@ -79,19 +80,6 @@ segment-later m k =
     ∙ ap (take 16) (drop-append-add (header (length m)) m (16 * suc k - length (header (length m))))
 
 -- each segment is the header, if it is segment 0, and a part of the message, which lies in the message
-take-min : (n : ℕ) (l : List ℕ) → take (min n (length l)) l ≡ take n l
-take-min n l = go (leb n (length l)) refl
-  where
-    go : (t : Bool) → leb n (length l) ≡ t → take (min n (length l)) l ≡ take n l
-    go true e =
-        let h : n ≤ length l = leb-true n (length l) e in
-        let least : min n (length l) ≡ n = omega arith in
-        rw least
-    go false e =
-        let h : length l < n = leb-false n (length l) e in
-        let least : length l ≤ min n (length l) = omega arith in
-        take-all (min n (length l)) l least ∙ sym (take-all n l (omega arith))
-
 min-sub : (len from end n : ℕ) → from + len ≡ end → min end n - from ≡ min len (n - from)
 min-sub len from end n e = omega arith
 

@@ -1,8 +1,8 @@
 // Circuits are listed, judged and found.
 ghost use mathlib.Core.Path.{_≡_};
 ghost use mathlib.Core.List.{[]};
-ghost use Prim.Native.Nat.{_≤_};
-ghost use lib.ListN.{length, drop};
+ghost use Prim.Native.Nat.{_+_, _*_, _≤_, min};
+ghost use lib.ListN.{length, drop, getD};
 ghost use Rattle.packet.specs.Lists.{anyOf, firstFrom};
 ghost use Rattle.packet.specs.Circuits.{circuitsOf, wrongLength, wrongExtension, alike, meets, twoAlike, circuitsRefusal, listRefusal, listed, noCircuit, recordOf, listing, numberFrom, foundOption};
 use super::Circuit;
@@ -73,77 +73,57 @@ impl Circuits {
         }
     }
 
-    // The number of the first listed circuit, from number `from` on, that meets a rule.
-    fn find(self, rule: Rule, from: usize) -> Found
-        ensures { λ r. ⌜ foundOption r ≡ firstFrom (meets rule) (drop from (listed self)) from ⌝ }
+    // Four circuits as a list's bytes.
+    fn bytes(self) -> [u8; 12]
+        ensures { λ r. ⌜ circuitsOf r ≡ self .list ⌝ }
     {
         let list = self.list;
-        let count = self.count as usize;
-        let mut i = from;
-        while i < 4 {
-            if count <= i {
-                return Found::Nowhere;
-            }
-            let c = list[i];
-            if c.meets(rule) {
-                return Found::At(i);
-            }
-            i += 1;
-        }
-        Found::Nowhere
+        let a = list[0];
+        let b = list[1];
+        let c = list[2];
+        let d = list[3];
+        [
+            a.address,
+            a.extended,
+            a.extension,
+            b.address,
+            b.extended,
+            b.extension,
+            c.address,
+            c.extended,
+            c.extension,
+            d.address,
+            d.extended,
+            d.extension,
+        ]
     }
 
-    // Some listed circuit from number `from` on meets a rule.
-    fn any(self, rule: Rule, from: usize) -> bool
-        ensures { λ r. ⌜ r ≡ anyOf (meets rule) (drop from (listed self)) ⌝ }
+    // The number of those bytes that belong to listed circuits.
+    fn bytes_listed(self) -> usize
+        ensures { λ r. ⌜ r ≡ 3 * min (self .count) 4 ⌝ }
     {
-        match self.find(rule, from) {
-            Found::At(_) => true,
-            Found::Nowhere => false,
+        if 4 < self.count {
+            return 12;
         }
+        3 * self.count as usize
     }
 
     // The number of a circuit among those listed.
     pub fn number_of(self, circuit: Circuit) -> Found
         ensures { λ r. ⌜ foundOption r ≡ numberFrom (listed self) circuit 0 ⌝ }
     {
-        self.find(Rule::Alike(circuit), 0)
-    }
-
-    // Two listed circuits are alike.
-    fn two_alike(self) -> bool
-        ensures { λ r. ⌜ r ≡ twoAlike (listed self) ⌝ }
-    {
-        let list = self.list;
-        let count = self.count as usize;
-        let mut i = 0;
-        while i < 4 {
-            if count <= i {
-                return false;
-            }
-            let c = list[i];
-            if self.any(Rule::Alike(c), i + 1) {
-                return true;
-            }
-            i += 1;
-        }
-        false
+        let bytes = self.bytes();
+        let n = self.bytes_listed();
+        number_in(&bytes[..n], circuit)
     }
 
     // The refusal of the listed circuits by 2, 3 or 4, or 0.
     pub fn refusal(self) -> u8
         ensures { λ r. ⌜ r ≡ circuitsRefusal (listed self) ⌝ }
     {
-        if self.any(Rule::AddressFF, 0) {
-            return 2;
-        }
-        if self.any(Rule::WrongExtension, 0) {
-            return 3;
-        }
-        if self.two_alike() {
-            return 4;
-        }
-        0
+        let bytes = self.bytes();
+        let n = self.bytes_listed();
+        refusal(&bytes[..n])
     }
 
     // The circuits of a list's bytes, of which there are at most twelve.
@@ -154,13 +134,8 @@ impl Circuits {
         let no = Circuit::none();
         let mut list = [no; 4];
         let mut i: usize = 0;
-        while 3 * i + 2 < bytes.len() {
-            let at = 3 * i;
-            list[i] = Circuit {
-                address: bytes[at],
-                extended: bytes[at + 1],
-                extension: bytes[at + 2],
-            };
+        while i < bytes.len() / 3 {
+            list[i] = circuit_at(bytes, i);
             i += 1;
         }
         Circuits {
@@ -180,8 +155,7 @@ impl Circuits {
                 circuits: none,
             };
         }
-        let circuits = Circuits::of(bytes);
-        let refusal = circuits.refusal();
+        let refusal = refusal(bytes);
         if refusal != 0 {
             let none = Circuits::none();
             return Listing {
@@ -189,6 +163,7 @@ impl Circuits {
                 circuits: none,
             };
         }
+        let circuits = Circuits::of(bytes);
         Listing {
             refusal: 0,
             circuits,
@@ -204,4 +179,80 @@ fn wrong_length(n: usize) -> bool
         3 | 6 | 9 | 12 => false,
         _ => true,
     }
+}
+
+// The circuit with a number in a list's bytes.
+fn circuit_at(list: &[u8], i: usize) -> Circuit
+    requires { ⌜ 3 * i + 3 ≤ length (now list) ⌝ }
+    ensures { λ r. ⌜ r ≡ getD (circuitsOf (now (list .entry))) i noCircuit ⌝ }
+{
+    let at = 3 * i;
+    Circuit {
+        address: list[at],
+        extended: list[at + 1],
+        extension: list[at + 2],
+    }
+}
+
+// The number of the first circuit of a list's bytes, from number `from` on, that meets a rule.
+fn find(list: &[u8], rule: Rule, from: usize) -> Found
+    ensures { λ r. ⌜ foundOption r ≡ firstFrom (meets rule) (drop from (circuitsOf (now (list .entry)))) from ⌝ }
+{
+    let mut i = from;
+    while i < list.len() / 3 {
+        let c = circuit_at(list, i);
+        if c.meets(rule) {
+            return Found::At(i);
+        }
+        i += 1;
+    }
+    Found::Nowhere
+}
+
+// Some circuit of a list's bytes, from number `from` on, meets a rule.
+fn any(list: &[u8], rule: Rule, from: usize) -> bool
+    ensures { λ r. ⌜ r ≡ anyOf (meets rule) (drop from (circuitsOf (now (list .entry)))) ⌝ }
+{
+    match find(list, rule, from) {
+        Found::At(_) => true,
+        Found::Nowhere => false,
+    }
+}
+
+// Two circuits of a list's bytes are alike.
+fn two_alike(list: &[u8]) -> bool
+    ensures { λ r. ⌜ r ≡ twoAlike (circuitsOf (now (list .entry))) ⌝ }
+{
+    let mut i = 0;
+    while i < list.len() / 3 {
+        let c = circuit_at(list, i);
+        if any(list, Rule::Alike(c), i + 1) {
+            return true;
+        }
+        i += 1;
+    }
+    false
+}
+
+// The refusal of the circuits of a list's bytes by 2, 3 or 4, or 0.
+pub fn refusal(list: &[u8]) -> u8
+    ensures { λ r. ⌜ r ≡ circuitsRefusal (circuitsOf (now (list .entry))) ⌝ }
+{
+    if any(list, Rule::AddressFF, 0) {
+        return 2;
+    }
+    if any(list, Rule::WrongExtension, 0) {
+        return 3;
+    }
+    if two_alike(list) {
+        return 4;
+    }
+    0
+}
+
+// The number of a circuit among those of a list's bytes.
+pub fn number_in(list: &[u8], circuit: Circuit) -> Found
+    ensures { λ r. ⌜ foundOption r ≡ numberFrom (circuitsOf (now (list .entry))) circuit 0 ⌝ }
+{
+    find(list, Rule::Alike(circuit), 0)
 }

@@ -6,7 +6,7 @@ ghost use Rattle.packet.specs.Answers.{answerOf};
 ghost use Rattle.packet.specs.Messages.{longest, header, partOf, packets, linkOf};
 ghost use Rattle.packet.specs.Packets.{control};
 
-mod circuit_lists;
+pub mod circuit_lists;
 
 // A circuit's region of the store, and the longest message, in bytes.
 pub const REGION: usize = 4096;

@@ -17,6 +17,7 @@ use Rattle.bits.proofs.Tests.{or-left, or-right}
 use Rattle.framing.specs.declared.Check.{Check}
 use Rattle.framing.specs.declared.Check.the-variants.{Packet, Spoilt, Nothing}
 use Rattle.framing.specs.declared.Scan.{Scan}
+use Rattle.framing.specs.Range.{inRange as framingInRange}
 use Rattle.framing.specs.Scanning.{scan}
 use Rattle.framing.proofs.Check.{the-type}
 use Rattle.framing.proofs.Scanned.{Packed, scan-least, scan-packet}
@@ -165,6 +166,9 @@ module _ (r : Receiver) (store bytes : List ℕ) (from to : ℕ) where
   module _ (h : readRefusal r store bytes from to ≡ 0) where
     known : Accepted r store bytes from to
     known = accepted r store bytes from to h
+
+    pub framing-in-range : framingInRange (r .framing) ≡ true
+    framing-in-range = inRange-parts r (known .range) .framing
 
     pub before-scan : (from ≤ to) × (to ≤ 8 * length bytes)
     before-scan = (known .order, known .lent)

@@ -16,7 +16,7 @@ use notices::Notice;
 use notices::stores;
 
 // The notice where no packet passed: a spoilt body, or the end of the bits.
-fn quiet_notice(check: Check) -> Notice
+pub fn quiet_notice(check: Check) -> Notice
     ensures { λ r. ⌜ r ≡ quietNotice check ⌝ }
 {
     match check {
@@ -90,7 +90,7 @@ impl Receiver {
         ensures { λ r. ⌜ ReadCalled self (now (store .entry)) (now (bytes .entry)) from to (now (store .exit)) r ⌝ }
     {
         let framing = self.framing;
-        let scan = framing.scan(bytes, from, to);
+        let scan = framing.scan_known(true, bytes, from, to);
         let bits = scan.at - from;
         let receiver = self.with_framing(scan.framing);
         let check = scan.check;

@@ -6,11 +6,9 @@ ghost use mathlib.Core.Path.{_≡_};
 ghost use Prim.Native.Nat.{_+_, _≤_};
 ghost use lib.ListN.{length};
 ghost use lib.Seq.{sets};
-ghost use Rattle.receiver_layout.specs.ReceiverBytes.{receiverLength, slotBytes, slotIn, slotsBytes, receiverBytes, receiverIn, isReceiver};
-use framing_layout::framing_in;
+ghost use Rattle.receiver_layout.specs.ReceiverBytes.{receiverLength, slotBytes, slotIn, slotsBytes, receiverBytes, isReceiver};
 use framing_layout::put_framing;
 use layout::circuits_bytes;
-use layout::circuits_in;
 use layout::low_byte;
 use layout::word_at;
 use notices::Slot;
@@ -39,7 +37,7 @@ pub fn is_receiver(bytes: &[u8]) -> bool
 }
 
 // The slot in six bytes.
-fn slot_in(bytes: &[u8], at: usize) -> Slot
+pub fn slot_in(bytes: &[u8], at: usize) -> Slot
     requires { ⌜ at + 6 ≤ length (now bytes) ⌝ }
     ensures { λ r. ⌜ r ≡ slotIn (now (bytes .entry)) at ⌝ }
 {
@@ -48,24 +46,6 @@ fn slot_in(bytes: &[u8], at: usize) -> Slot
         last: bytes[at + 1],
         length: word_at(bytes, at + 2),
         place: word_at(bytes, at + 4),
-    }
-}
-
-// The record in bytes.
-pub fn receiver_in(bytes: &[u8]) -> Receiver
-    requires { ⌜ receiverLength ≤ length (now bytes) ⌝ }
-    ensures { λ r. ⌜ r ≡ receiverIn (now (bytes .entry)) ⌝ }
-{
-    let circuits = circuits_in(bytes);
-    let first = slot_in(bytes, 13);
-    let second = slot_in(bytes, 19);
-    let third = slot_in(bytes, 25);
-    let fourth = slot_in(bytes, 31);
-    let framing = framing_in(bytes, 37);
-    Receiver {
-        circuits,
-        slots: [first, second, third, fourth],
-        framing,
     }
 }
 
@@ -86,7 +66,7 @@ fn slot_bytes(t: Slot) -> [u8; 6]
 }
 
 // A slot's bytes go to byte `at` and those behind it.
-fn put_slot(bytes: &mut [u8], at: usize, t: Slot)
+pub fn put_slot(bytes: &mut [u8], at: usize, t: Slot)
     requires { ⌜ at + 6 ≤ length (now bytes) ⌝ }
     ensures { λ r. ⌜ now (bytes .exit) ≡ sets (now (bytes .entry)) at (slotBytes t) ⌝ }
 {

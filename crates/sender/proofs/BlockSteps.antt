@@ -35,7 +35,7 @@ use Rattle.sender.specs.Blocks.{
   senderAfterBlock,
   bufferAfterBlock,
 }
-use Rattle.sender.specs.BlockCalls.{Allowed, FramesWritten, Closed, madeOf, answerToBlock, BlockCalled}
+use Rattle.sender.specs.BlockCalls.{Allowed, FramesWritten, Closed, madeOf, answerToBlock, BlockWritten, BlockCalled}
 use Rattle.sender.proofs.UsedBits.{usedBits-behind}
 use Rattle.sender.proofs.UsedAtMostU.{used-at-most-U}
 use Rattle.sender.proofs.OpeningBits.{length-opening}
@@ -112,14 +112,20 @@ module _ (s : Sender) (store old : List ℕ) (n u : ℕ) (y : System) where
         before-closing = (omega (arith, end, used-le, known), omega (arith, known), omega (arith, l₁, l₂, known))
 
         -- and the block is closed
-        pub BlockCalled-made : {new : List ℕ} → Closed b₂ (r .at) n new → Bytes old → Bytes new
-            → BlockCalled s store old n u y new (record { made = Block (r .placed) (r .at); sender = r .sender })
-        unfolding senderAfterBlock bufferAfterBlock answerToBlock madeOf usedBits blockBits blockOf
-        BlockCalled-made {new} closed ho hn =
+        pub BlockWritten-closed : {new : List ℕ} → Closed b₂ (r .at) n new → Bytes old → Bytes new → BlockWritten s store old n u y new r
+        unfolding senderAfterBlock bufferAfterBlock usedBits blockBits blockOf
+        BlockWritten-closed {new} closed ho hn =
             let filling = FramesWritten-block s store u (systemPackets y) (enableBits y) opened frames in
             let written = Written-used s store u (systemPackets y) (enableBits y) opened frames in
             record {
               sender = rw h (filling .sender);
-              made = rw (h, filling .placed, end);
+              placed = filling .placed;
+              used = end;
               buffer = rw h (Closed-blockBuffer old used n (omega (arith, used-le, known)) (known .buffer-long) written closed ho hn);
             }
+
+    -- what the call returns then
+    pub BlockCalled-made : {new : List ℕ} {r : Fill} → BlockWritten s store old n u y new r
+        → BlockCalled s store old n u y new (record { made = Block (r .placed) (r .at); sender = r .sender })
+    unfolding answerToBlock madeOf
+    BlockCalled-made w = record { sender = w .sender; made = rw (h, w .placed, w .used); buffer = w .buffer }

@@ -4,33 +4,26 @@ use mathlib.Core.Path.{_≡_, refl}
 use Prim.Native.Nat.{ℕ, _+_, _*_, _≤_}
 use native.Mathlib.Omega.{arith}
 use mathlib.Core.Bool.{Bool, true, false}
-use mathlib.Core.List.{List, _∷_, _++_, append-nil}
+use mathlib.Core.List.{List, _++_, append-nil}
 use lib.ListN.{length, length-append}
-use Rattle.bits.specs.Bits.{byteBits, bitsOf}
 use Rattle.hdlc.specs.Frames.{flag, frame}
+use Rattle.hdlc.specs.Leads.{led, Below}
 use Rattle.hdlc.specs.Writing.{Room, Written}
 use Rattle.hdlc.proofs.Writing.{Written-append}
 use Rattle.hdlc.proofs.Ending.{length-flag}
-use Rattle.hdlc.proofs.InTurn.{bitsOf-cons}
+use Rattle.hdlc.proofs.Leads.{led-three}
 use Rattle.hdlc.proofs.FrameLength.{length-frame}
 use Rattle.packet.specs.Packets.{systemPacket}
 use Rattle.sender.specs.Blocks.{framesBits, flaggedFrames, System, systemPackets}
 use Rattle.sender.specs.BlockCalls.{Allowed}
 
--- a system packet's bits are those of its bytes in turn
-module _ (enable code : ℕ) (information : List ℕ) where
-  -- what is left of it behind the address, and behind the control byte
-  abbrev pub behindAddress : List ℕ
-  behindAddress = (192 + enable) ∷ (16 * code + length information) ∷ information
+-- a system packet is three bytes of a number, and the information
+pub led-system : (enable code : ℕ) (information : List ℕ) {lead control descriptor : ℕ} → Below 0xff control lead →
+    Below (192 + enable) descriptor control → Below (16 * code + length information) 0 descriptor → led lead 3 information ≡ systemPacket enable code information
+unfolding systemPacket led
+led-system enable code information p q r = led-three p q r 0 information
 
-  abbrev pub behindControl : List ℕ
-  behindControl = (16 * code + length information) ∷ information
-
-  pub bitsOf-system : bitsOf (systemPacket enable code information) ≡ byteBits 0xff ++ bitsOf behindAddress
-  unfolding systemPacket
-  bitsOf-system = bitsOf-cons 0xff behindAddress
-
--- its frame, with a flag, has at most 200 bits
+-- a system packet's frame, with a flag, has at most 200 bits
 length-systemPacket : (enable code : ℕ) (information : List ℕ) → length (systemPacket enable code information) ≡ length information + 3
 unfolding systemPacket
 length-systemPacket enable code information = omega arith

@@ -66,6 +66,13 @@ bitsUsed s store u y = length (usedBits s store u (systemPackets y) (enableBits 
 unfoldable pub answerToBlock : Sender → List ℕ → List ℕ → ℕ → ℕ → System → Made
 answerToBlock s store buffer n u y = madeOf (blockRefusal s store buffer n u y) (framesPlaced s store u y) (bitsUsed s store u y)
 
+-- the block of an accepted call is written, and `r` tells of it
+pub record BlockWritten (s : Sender) (store old : List ℕ) (n u : ℕ) (y : System) (new : List ℕ) (r : Fill) : Type 0 where
+  pub sender : r .sender ≡ senderAfterBlock s store old n u y
+  pub placed : r .placed ≡ framesPlaced s store u y
+  pub used : r .at ≡ bitsUsed s store u y
+  pub buffer : new ≡ bufferAfterBlock s store old n u y
+
 -- what a block call returns and leaves
 pub record BlockCalled (s : Sender) (store old : List ℕ) (n u : ℕ) (y : System) (new : List ℕ) (r : Making) : Type 0 where
   pub sender : r .sender ≡ senderAfterBlock s store old n u y

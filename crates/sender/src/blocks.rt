@@ -8,14 +8,15 @@ ghost use lib.Dec.{leb};
 ghost use Rattle.hdlc.specs.Frames.{flag, frame};
 ghost use Rattle.hdlc.specs.Writing.{Room, Written};
 ghost use Rattle.packet.specs.Packets.{systemPacket};
+ghost use Rattle.offering.specs.declared.Sender.{Sender};
 ghost use Rattle.offering.specs.Record.{storeLength, slotAt, pending, inRange};
 ghost use Rattle.writing.specs.NextFrame.{nextFrame};
 ghost use Rattle.sender.specs.Blocks.{flaggedFrames, fillUp, systemPackets, enableBits, inForce, wrongSystem, blockRefusal};
-ghost use Rattle.sender.specs.BlockCalls.{system, Allowed, FramesWritten, Closed, BlockCalled};
+ghost use Rattle.sender.specs.BlockCalls.{system, Allowed, FramesWritten, Closed, BlockWritten, BlockCalled};
 use crate::Fill;
 use crate::Made;
 use crate::Making;
-use hdlc::Pen;
+use hdlc::led::below;
 use offering::Sender;
 use picking::Pick;
 use picking::rule;
@@ -30,11 +31,9 @@ fn put_system(buf: &mut [u8], at: usize, enable: u8, code: u8, information: &[u8
     ensures { λ r. ⌜ Written (now (buf .entry)) at (frame (systemPacket enable code (now (information .entry))) ++ flag) (now (buf .exit)) r ⌝ }
 {
     let n = information.len() as u8;
-    let address = hdlc::stuff_byte(buf, Pen::new(at), 0xff);
-    let control = hdlc::stuff_byte(buf, address, 192 + enable);
-    let descriptor = hdlc::stuff_byte(buf, control, 16 * code + n);
-    let end = hdlc::stuff_bytes(buf, descriptor, information);
-    hdlc::end_frame(buf, end)
+    let descriptor = below(16 * code + n, 0);
+    let lead = below(0xff, below(192 + enable, descriptor));
+    hdlc::led::write_led(buf, at, lead, 3, information)
 }
 
 // What a block begins with: a flag, and if one is wanted the system packet's frame and a flag.
@@ -134,9 +133,8 @@ fn system_refusal(wanted: bool, enable: u8, code: u8, information: &[u8]) -> u8
     0
 }
 
-// The refusal of a block call, 0 if it is accepted.
-fn refusal(
-    sender: Sender,
+// The refusal of a block call to a sender in range, 0 if it is accepted.
+pub fn later_refusal(
     store: &[u8],
     buf: &[u8],
     n: usize,
@@ -146,11 +144,8 @@ fn refusal(
     code: u8,
     information: &[u8],
 ) -> u8
-    ensures { λ r. ⌜ r ≡ blockRefusal sender (now (store .entry)) (now (buf .entry)) n u (system wanted enable code (now (information .entry))) ⌝ }
+    ensures { λ r. ⌜ ((s : Sender) → inRange s ≡ true → r ≡ blockRefusal s (now (store .entry)) (now (buf .entry)) n u (system wanted enable code (now (information .entry)))) ⌝ }
 {
-    if !sender.in_range() {
-        return 14;
-    }
     if store.len() < Sender::STORE {
         return 5;
     }
@@ -172,8 +167,28 @@ fn refusal(
     system_refusal(wanted, enable, code, information)
 }
 
+// The refusal of a block call, 0 if it is accepted.
+fn refusal(
+    sender: Sender,
+    store: &[u8],
+    buf: &[u8],
+    n: usize,
+    u: usize,
+    wanted: bool,
+    enable: u8,
+    code: u8,
+    information: &[u8],
+) -> u8
+    ensures { λ r. ⌜ r ≡ blockRefusal sender (now (store .entry)) (now (buf .entry)) n u (system wanted enable code (now (information .entry))) ⌝ }
+{
+    if !sender.in_range() {
+        return 14;
+    }
+    later_refusal(store, buf, n, u, wanted, enable, code, information)
+}
+
 // A block that no refusal stops.
-fn write_block(
+pub fn write_block(
     sender: Sender,
     store: &[u8],
     buf: &mut [u8],
@@ -183,23 +198,16 @@ fn write_block(
     enable: u8,
     code: u8,
     information: &[u8],
-) -> Making
+) -> Fill
     requires { ⌜ blockRefusal sender (now store) (now buf) n u (system wanted enable code (now information)) ≡ 0 ⌝ }
-    ensures { λ r. ⌜ BlockCalled sender (now (store .entry)) (now (buf .entry)) n u (system wanted enable code (now (information .entry))) (now (buf .exit)) r ⌝ }
+    ensures { λ r. ⌜ BlockWritten sender (now (store .entry)) (now (buf .entry)) n u (system wanted enable code (now (information .entry))) (now (buf .exit)) r ⌝ }
 {
     let at = put_opening(buf, wanted, enable, code, information);
     let mut s = sender;
     s.enable = in_force(sender.enable, wanted, enable);
     let f = fill(buf, s, store, at, s.enable, u);
     close(buf, f.at, n);
-    let after = f.sender;
-    Making {
-        made: Made::Block {
-            placed: f.placed,
-            used: f.at,
-        },
-        sender: after,
-    }
+    f
 }
 
 // A block of n bits, of which u may be used, made into the buffer from the messages in the store: a system packet, if one is wanted,
@@ -224,5 +232,13 @@ pub fn make_block(
             sender,
         };
     }
-    write_block(sender, store, buf, n, u, wanted, enable, code, information)
+    let f = write_block(sender, store, buf, n, u, wanted, enable, code, information);
+    let after = f.sender;
+    Making {
+        made: Made::Block {
+            placed: f.placed,
+            used: f.at,
+        },
+        sender: after,
+    }
 }

@@ -1,4 +1,5 @@
 // A sender's record, and the answer of block making, in bytes.
+
 ghost use mathlib.Core.Path.{_≡_};
 ghost use Prim.Native.Nat.{_+_, _≤_};
 ghost use lib.ListN.{length};
@@ -19,7 +20,7 @@ pub const LENGTH: usize = 55;
 pub const ANSWER: usize = 8;
 
 // The slot in ten bytes.
-fn slot_in(bytes: &[u8], at: usize) -> Slot
+pub fn slot_in(bytes: &[u8], at: usize) -> Slot
     requires { ⌜ at + 10 ≤ length (now bytes) ⌝ }
     ensures { λ r. ⌜ r ≡ slotIn (now (bytes .entry)) at ⌝ }
 {
@@ -74,7 +75,7 @@ fn slot_bytes(t: Slot) -> [u8; 10]
 }
 
 // A slot's bytes go to byte `at` and those behind it.
-fn put_slot(bytes: &mut [u8], at: usize, t: Slot)
+pub fn put_slot(bytes: &mut [u8], at: usize, t: Slot)
     requires { ⌜ at + 10 ≤ length (now bytes) ⌝ }
     ensures { λ r. ⌜ now (bytes .exit) ≡ sets (now (bytes .entry)) at (slotBytes t) ⌝ }
 {

@@ -1,102 +1,38 @@
 -- Runs of ones by the tests that the code makes on numbers: where five ones in a row begin, and how many end a word.
-use Prim.Native.Nat.{ℕ, zero, suc, _+_, _-_, _*_, _/_, _%_, _^_, _≤_, _<_, min}
-use native.Mathlib.Nat.{zero-add, zero-min, min-zero, suc-min-suc, min-eq-left, min-eq-right, mul-assoc, mul-comm, add-mul, pow-suc}
+use Prim.Native.Nat.{ℕ, zero, suc, _+_, _-_, _*_, _/_, _^_, _≤_, _<_, min}
+use native.Mathlib.Nat.{zero-add, zero-min, min-zero, suc-min-suc, min-eq-left, min-eq-right, pow-suc}
 use native.Mathlib.Omega.{arith}
 use mathlib.Core.Bool.{Bool, true, false, cond, _&&_}
 use mathlib.Core.List.{_∷_}
 use mathlib.Core.Path.{_≡_, refl, sym, ap, _∙_}
-use lib.Bits.{bitAnd, and-step, and-shr}
 use lib.Count.{leadingZeros, trailingZeros, leading-length, leading-unique, leading-of-zero}
 use lib.Dec.{eqb}
-use lib.Pow.{high, ones-lt, pow-pos, shr-shr}
-use borrow.Author.Tests.{eqb-true, eqb-false, eq-eqb}
+use lib.Pow.{pow-pos}
+use borrow.Author.Tests.{eqb-true, eqb-false}
 use Rattle.bits.specs.Bits.{odd, lowBits}
+use Rattle.fcs.proofs.Bytewise.{odd-even}
 use Rattle.hdlc.specs.Stuffing.{endOnes}
+use Rattle.hdlc.specs.Chunks.{fiveOnes}
+use Rattle.hdlc.proofs.FiveOnes.{five-half, odd-five, digit, odd-is, by-bit, halved, behindOnes, above, half-above, one-more, none-before, fifth-here}
 use Rattle.words.specs.Runs.{untilFive}
 
--- ---- digits of a conjunction
+-- ---- a zero among five bits
 
-least : (x y : ℕ) → x < 2 → y < 2 → eqb (min x y) 1 ≡ eqb x 1 && eqb y 1
-least zero zero h k = refl
-least zero (suc zero) h k = refl
-least zero (suc (suc y)) h k = absurd (omega arith)
-least (suc zero) zero h k = refl
-least (suc zero) (suc zero) h k = refl
-least (suc zero) (suc (suc y)) h k = absurd (omega arith)
-least (suc (suc x)) y h k = absurd (omega arith)
-
-least-lt : (x y : ℕ) → x < 2 → y < 2 → min x y < 2
-least-lt zero y h k = rw zero-min (omega arith)
-least-lt (suc zero) zero h k = omega arith
-least-lt (suc zero) (suc zero) h k = omega arith
-least-lt (suc zero) (suc (suc y)) h k = absurd (omega arith)
-least-lt (suc (suc x)) y h k = absurd (omega arith)
-
-digit-of : (n q d : ℕ) → n ≡ q * 2 + d → d < 2 → n % 2 ≡ d
-digit-of n q d e h = omega arith
-
-odd-and : (a b : ℕ) → odd (bitAnd a b) ≡ odd a && odd b
-unfolding odd
-odd-and a b =
-    let h : a % 2 < 2 = omega arith in
-    let k : b % 2 < 2 = omega arith in
-    rw (digit-of (bitAnd a b) (bitAnd (a / 2) (b / 2)) (min (a % 2) (b % 2)) (and-step a b) (least-lt (a % 2) (b % 2) h k)) (least (a % 2) (b % 2) h k)
-
--- ---- where five ones in a row begin
-
-abbrev pairs : ℕ → ℕ
-pairs x = bitAnd x (x / 2)
-
-abbrev pub fives : ℕ → ℕ
-fives x = bitAnd (bitAnd (pairs x) (pairs x / 4)) (x / 16)
-
-pairs-half : (x : ℕ) → pairs x / 2 ≡ pairs (x / 2)
-pairs-half x = and-shr x (x / 2) 1
-
-fives-half : (x : ℕ) → fives x / 2 ≡ fives (x / 2)
-fives-half x =
-    let a : pairs x / 4 / 2 ≡ pairs x / 2 / 4 = omega arith in
-    let b : x / 16 / 2 ≡ x / 2 / 16 = omega arith in
-    and-shr (bitAnd (pairs x) (pairs x / 4)) (x / 16) 1
-    ∙ rw (and-shr (pairs x) (pairs x / 4) 1, a, b, pairs-half)
-
-odd-pairs : (x : ℕ) → odd (pairs x) ≡ odd x && odd (x / 2)
-odd-pairs x = odd-and x (x / 2)
-
-pairs-quarter : (x : ℕ) → pairs x / 4 ≡ pairs (x / 4)
-pairs-quarter x =
-    let a : x / 2 / 4 ≡ x / 4 / 2 = omega arith in
-    and-shr x (x / 2) 2 ∙ rw a
-
-odd-fives : (x : ℕ) → odd (fives x) ≡ ((odd x && odd (x / 2)) && (odd (x / 4) && odd (x / 8))) && odd (x / 16)
-odd-fives x =
-    let a : x / 4 / 2 ≡ x / 8 = omega arith in
-    odd-and (bitAnd (pairs x) (pairs x / 4)) (x / 16)
-    ∙ rw (odd-and (pairs x) (pairs x / 4), odd-pairs x, pairs-quarter x, odd-pairs (x / 4), a)
-
--- a zero among the five bits
 and-false : (a : Bool) → a && false ≡ false
 and-false true = refl
 and-false false = refl
 
-fives-none : (j x : ℕ) → j ≤ 4 → odd (x / 2 ^ j) ≡ false → odd (fives x) ≡ false
+fives-none : (j x : ℕ) → j ≤ 4 → odd (x / 2 ^ j) ≡ false → odd (fiveOnes x) ≡ false
 fives-none zero x h e =
     let f : x / 2 ^ 0 ≡ x = omega arith in
-    odd-fives x ∙ rw (ap odd (sym f) ∙ e)
-fives-none (suc zero) x h e = odd-fives x ∙ rw (e, and-false)
-fives-none (suc (suc zero)) x h e = odd-fives x ∙ rw (e, and-false)
-fives-none (suc (suc (suc zero))) x h e = odd-fives x ∙ rw (e, and-false, and-false)
-fives-none (suc (suc (suc (suc zero)))) x h e = odd-fives x ∙ rw (e, and-false)
+    odd-five x ∙ rw (ap odd (sym f) ∙ e)
+fives-none (suc zero) x h e = odd-five x ∙ rw (e, and-false)
+fives-none (suc (suc zero)) x h e = odd-five x ∙ rw (e, and-false)
+fives-none (suc (suc (suc zero))) x h e = odd-five x ∙ rw (e, and-false, and-false)
+fives-none (suc (suc (suc (suc zero)))) x h e = odd-five x ∙ rw (e, and-false)
 fives-none (suc (suc (suc (suc (suc j))))) x h e = absurd (omega arith)
 
 -- ---- zeros below the lowest one
-
-digit : (n : ℕ) (t : Bool) → odd n ≡ t → n % 2 ≡ cond t 1 0
-unfolding odd
-digit n true e = eqb-true (n % 2) 1 e
-digit n false e =
-    let other : n % 2 ≡ 1 → ⊥ = eqb-false (n % 2) 1 e in
-    omega arith
 
 trailing-even : (k n : ℕ) → odd n ≡ false → trailingZeros (suc k) n ≡ suc (trailingZeros k (n / 2))
 unfolding trailingZeros
@@ -106,134 +42,77 @@ trailing-odd : (k n : ℕ) → odd n ≡ true → trailingZeros (suc k) n ≡ 0
 unfolding trailingZeros
 trailing-odd k n e = rw (digit n true e)
 
--- halved, and then by a power of two
-halved : (x k : ℕ) → x / 2 / 2 ^ k ≡ x / 2 ^ suc k
-halved x k =
-    let a : 1 + k ≡ suc k = omega arith in
-    shr-shr x 1 k ∙ ap (λ (i : ℕ). x / 2 ^ i) a
-
 -- no five ones begin up to a zero that at most four ones stand before
 pub fives-through : (o k x : ℕ) → o ≤ 4 → odd (x / 2 ^ o) ≡ false →
-    trailingZeros (suc o + k) (fives x) ≡ suc o + trailingZeros k (fives (x / 2 ^ suc o))
+    trailingZeros (suc o + k) (fiveOnes x) ≡ suc o + trailingZeros k (fiveOnes (x / 2 ^ suc o))
 fives-through zero k x h e =
     let a : 1 + k ≡ suc k = omega arith in
-    let b : suc (trailingZeros k (fives (x / 2))) ≡ 1 + trailingZeros k (fives (x / 2)) = omega arith in
-    ap (λ (i : ℕ). trailingZeros i (fives x)) a ∙ trailing-even k (fives x) (fives-none 0 x h e)
-    ∙ ap (λ (n : ℕ). suc (trailingZeros k n)) (fives-half x) ∙ b
+    let b : suc (trailingZeros k (fiveOnes (x / 2))) ≡ 1 + trailingZeros k (fiveOnes (x / 2)) = omega arith in
+    ap (λ (i : ℕ). trailingZeros i (fiveOnes x)) a ∙ trailing-even k (fiveOnes x) (fives-none 0 x h e)
+    ∙ ap (λ (n : ℕ). suc (trailingZeros k n)) (five-half x) ∙ b
 fives-through (suc o) k x h e =
     let a : x / 2 / 2 ^ o ≡ x / 2 ^ suc o = halved x o in
     let b : x / 2 / 2 ^ suc o ≡ x / 2 ^ suc (suc o) = halved x (suc o) in
     let c : suc (suc o) + k ≡ suc (suc o + k) = omega arith in
-    let d : suc (suc o + trailingZeros k (fives (x / 2 ^ suc (suc o)))) ≡ suc (suc o) + trailingZeros k (fives (x / 2 ^ suc (suc o))) = omega arith in
-    ap (λ (i : ℕ). trailingZeros i (fives x)) c ∙ trailing-even (suc o + k) (fives x) (fives-none (suc o) x h e)
-    ∙ ap (λ (n : ℕ). suc (trailingZeros (suc o + k) n)) (fives-half x)
+    let d : suc (suc o + trailingZeros k (fiveOnes (x / 2 ^ suc (suc o)))) ≡ suc (suc o) + trailingZeros k (fiveOnes (x / 2 ^ suc (suc o))) = omega arith in
+    ap (λ (i : ℕ). trailingZeros i (fiveOnes x)) c ∙ trailing-even (suc o + k) (fiveOnes x) (fives-none (suc o) x h e)
+    ∙ ap (λ (n : ℕ). suc (trailingZeros (suc o + k) n)) (five-half x)
     ∙ ap suc (fives-through o k (x / 2) (omega arith) (ap odd a ∙ e))
-    ∙ ap (λ (n : ℕ). suc (suc o + trailingZeros k (fives n))) b ∙ d
-
--- ---- a word behind ones
-
-abbrev pub behindOnes : ℕ → ℕ → ℕ
-behindOnes o w = w * 2 ^ o + (2 ^ o - 1)
-
-above : (o w : ℕ) → behindOnes o w / 2 ^ o ≡ w
-above o w = high w o (ones-lt o)
-
-half-above : (o w : ℕ) → behindOnes o w / 2 ^ suc o ≡ w / 2
-half-above o w =
-    let a : suc o ≡ o + 1 = omega arith in
-    ap (λ (k : ℕ). behindOnes o w / 2 ^ k) a ∙ sym (shr-shr (behindOnes o w) o 1) ∙ ap (λ (n : ℕ). n / 2) (above o w)
-
--- one more one
-one-more : (o w : ℕ) → odd w ≡ true → behindOnes o w ≡ behindOnes (suc o) (w / 2)
-one-more o w e =
-    let p : ℕ = 2 ^ o in
-    let d : w ≡ w / 2 * 2 + 1 = omega (arith, digit w true e) in
-    let a : w * p ≡ (w / 2 * 2 + 1) * p = ap (λ (n : ℕ). n * p) d in
-    let b : (w / 2 * 2 + 1) * p ≡ w / 2 * 2 * p + 1 * p = add-mul _ _ _ in
-    let c : w / 2 * 2 * p ≡ w / 2 * (2 * p) = mul-assoc _ _ _ in
-    let q : 2 * p ≡ p * 2 = mul-comm _ _ in
-    let f : w / 2 * (2 * p) ≡ w / 2 * (p * 2) = ap (λ (n : ℕ). w / 2 * n) q in
-    let pos : 0 < p = pow-pos o in
-    rw pow-suc (omega arith)
-
--- no one before it
-none-before : (w : ℕ) → behindOnes 0 w ≡ w
-none-before w = omega arith
+    ∙ ap (λ (n : ℕ). suc (suc o + trailingZeros k (fiveOnes n))) b ∙ d
 
 -- ---- up to the fifth one
 
-odd-is : (n : ℕ) → n % 2 ≡ 1 → odd n ≡ true
-unfolding odd
-odd-is n e = eq-eqb (n % 2) 1 e
-
-odd-isnt : (n : ℕ) → n % 2 ≡ 0 → odd n ≡ false
-unfolding odd
-odd-isnt n e = rw e
-
-fifth-here : (w : ℕ) → odd w ≡ true → odd (fives (behindOnes 4 w)) ≡ true
-fifth-here w e =
-    let x : ℕ = behindOnes 4 w in
-    let d = digit w true e in
-    odd-fives x ∙ rw (odd-is x (omega arith), odd-is (x / 2) (omega arith), odd-is (x / 4) (omega arith), odd-is (x / 8) (omega arith), odd-is (x / 16) (ap (λ (n : ℕ). n % 2) (above 4 w) ∙ d))
-
 -- a zero: what is behind it counts from no one
 until-zero : (n o w k : ℕ) → o ≤ 4 → o + suc n ≤ k → odd w ≡ false →
-    ((j : ℕ) → n ≤ j → untilFive (lowBits n (w / 2)) 0 ≡ min n (trailingZeros j (fives (behindOnes 0 (w / 2))) + 5 - 0)) →
-    suc (untilFive (lowBits n (w / 2)) 0) ≡ min (suc n) (trailingZeros k (fives (behindOnes o w)) + 5 - o)
+    ((j : ℕ) → n ≤ j → untilFive (lowBits n (w / 2)) 0 ≡ min n (trailingZeros j (fiveOnes (behindOnes 0 (w / 2))) + 5 - 0)) →
+    suc (untilFive (lowBits n (w / 2)) 0) ≡ min (suc n) (trailingZeros k (fiveOnes (behindOnes o w)) + 5 - o)
 until-zero n o w k h l e rest =
     let j : ℕ = k - suc o in
     let s : k ≡ suc o + j = omega arith in
-    let t : ℕ = trailingZeros j (fives (w / 2)) in
-    let through : trailingZeros k (fives (behindOnes o w)) ≡ suc o + t =
-    ap (λ (i : ℕ). trailingZeros i (fives (behindOnes o w))) s ∙ fives-through o j (behindOnes o w) h (ap odd (above o w) ∙ e)
-    ∙ ap (λ (x : ℕ). suc o + trailingZeros j (fives x)) (half-above o w) in
+    let t : ℕ = trailingZeros j (fiveOnes (w / 2)) in
+    let through : trailingZeros k (fiveOnes (behindOnes o w)) ≡ suc o + t =
+    ap (λ (i : ℕ). trailingZeros i (fiveOnes (behindOnes o w))) s ∙ fives-through o j (behindOnes o w) h (ap odd (above o w) ∙ e)
+    ∙ ap (λ (x : ℕ). suc o + trailingZeros j (fiveOnes x)) (half-above o w) in
     let a : suc o + t + 5 - o ≡ suc (t + 5 - 0) = omega arith in
-    ap suc (rest j (omega arith) ∙ ap (λ (x : ℕ). min n (trailingZeros j (fives x) + 5 - 0)) (none-before (w / 2)))
+    ap suc (rest j (omega arith) ∙ ap (λ (x : ℕ). min n (trailingZeros j (fiveOnes x) + 5 - 0)) (none-before (w / 2)))
     ∙ sym (suc-min-suc n (t + 5 - 0)) ∙ ap (min (suc n)) (sym a) ∙ ap (λ (x : ℕ). min (suc n) (x + 5 - o)) (sym through)
 
 -- a one: the fifth, or one more before it
 until-one : (n o w k : ℕ) → o ≤ 4 → o + suc n ≤ k → odd w ≡ true →
-    (suc o ≤ 4 → untilFive (lowBits n (w / 2)) (suc o) ≡ min n (trailingZeros k (fives (behindOnes (suc o) (w / 2))) + 5 - suc o)) →
-    cond (eqb o 4) 1 (suc (untilFive (lowBits n (w / 2)) (suc o))) ≡ min (suc n) (trailingZeros k (fives (behindOnes o w)) + 5 - o)
+    (suc o ≤ 4 → untilFive (lowBits n (w / 2)) (suc o) ≡ min n (trailingZeros k (fiveOnes (behindOnes (suc o) (w / 2))) + 5 - suc o)) →
+    cond (eqb o 4) 1 (suc (untilFive (lowBits n (w / 2)) (suc o))) ≡ min (suc n) (trailingZeros k (fiveOnes (behindOnes o w)) + 5 - o)
 until-one n o w k h l e rest = go (eqb o 4) refl
   where
-    go : (t : Bool) → eqb o 4 ≡ t → cond t 1 (suc (untilFive (lowBits n (w / 2)) (suc o))) ≡ min (suc n) (trailingZeros k (fives (behindOnes o w)) + 5 - o)
+    go : (t : Bool) → eqb o 4 ≡ t → cond t 1 (suc (untilFive (lowBits n (w / 2)) (suc o))) ≡ min (suc n) (trailingZeros k (fiveOnes (behindOnes o w)) + 5 - o)
     go true q =
         let four : o ≡ 4 = eqb-true o 4 q in
         let s : k ≡ suc (k - 1) = omega arith in
-        let none : trailingZeros k (fives (behindOnes o w)) ≡ 0 =
-        ap (λ (i : ℕ). trailingZeros k (fives (behindOnes i w))) four ∙ ap (λ (i : ℕ). trailingZeros i (fives (behindOnes 4 w))) s
-        ∙ trailing-odd (k - 1) (fives (behindOnes 4 w)) (fifth-here w e) in
+        let none : trailingZeros k (fiveOnes (behindOnes o w)) ≡ 0 =
+        ap (λ (i : ℕ). trailingZeros k (fiveOnes (behindOnes i w))) four ∙ ap (λ (i : ℕ). trailingZeros i (fiveOnes (behindOnes 4 w))) s
+        ∙ trailing-odd (k - 1) (fiveOnes (behindOnes 4 w)) (fifth-here w e) in
         let a : 0 + 5 - o ≡ suc 0 = omega arith in
         sym (ap (λ (x : ℕ). min (suc n) (x + 5 - o)) none ∙ ap (min (suc n)) a ∙ suc-min-suc n 0 ∙ ap suc (min-zero n))
     go false q =
         let other : o ≡ 4 → ⊥ = eqb-false o 4 q in
-        let x : ℕ = trailingZeros k (fives (behindOnes (suc o) (w / 2))) in
+        let x : ℕ = trailingZeros k (fiveOnes (behindOnes (suc o) (w / 2))) in
         let a : x + 5 - o ≡ suc (x + 5 - suc o) = omega arith in
         ap suc (rest (omega arith)) ∙ sym (suc-min-suc n (x + 5 - suc o)) ∙ ap (min (suc n)) (sym a)
-        ∙ ap (λ (y : ℕ). min (suc n) (trailingZeros k (fives y) + 5 - o)) (sym (one-more o w e))
-
-by-bit : (P : Bool → Type 0) (w : ℕ) → (odd w ≡ false → P false) → (odd w ≡ true → P true) → P (odd w)
-by-bit P w f t = go (odd w) refl
-  where
-    go : (b : Bool) → odd w ≡ b → P (odd w)
-    go false e = rw e (f e)
-    go true e = rw e (t e)
+        ∙ ap (λ (y : ℕ). min (suc n) (trailingZeros k (fiveOnes y) + 5 - o)) (sym (one-more o w e))
 
 pub until-five : (n o w k : ℕ) → o ≤ 4 → o + n ≤ k →
-    untilFive (lowBits n w) o ≡ min n (trailingZeros k (fives (behindOnes o w)) + 5 - o)
+    untilFive (lowBits n w) o ≡ min n (trailingZeros k (fiveOnes (behindOnes o w)) + 5 - o)
 unfolding untilFive lowBits
 until-five zero o w k h l = sym (zero-min _)
 until-five (suc n) o w k h l =
-    by-bit (λ t. untilFive (t ∷ lowBits n (w / 2)) o ≡ min (suc n) (trailingZeros k (fives (behindOnes o w)) + 5 - o)) w
+    by-bit (λ t. untilFive (t ∷ lowBits n (w / 2)) o ≡ min (suc n) (trailingZeros k (fiveOnes (behindOnes o w)) + 5 - o)) w
     (λ e. until-zero n o w k h l e (λ j m. until-five n 0 (w / 2) j (omega arith) (omega arith)))
     (λ e. until-one n o w k h l e (λ m. until-five n (suc o) (w / 2) k m (omega arith)))
 
 -- of a word: within it, or all of it
-pub until-within : (o w m : ℕ) → o ≤ 4 → m ≡ trailingZeros 64 (fives (behindOnes o w)) + 5 - o → m < 56 → m ≡ untilFive (lowBits 56 w) o
+pub until-within : (o w m : ℕ) → o ≤ 4 → m ≡ trailingZeros 64 (fiveOnes (behindOnes o w)) + 5 - o → m < 56 → m ≡ untilFive (lowBits 56 w) o
 until-within o w m h e l = sym (until-five 56 o w 64 h (omega arith) ∙ ap (min 56) (sym e) ∙ min-eq-right (omega arith))
 
-pub until-all : (o w m : ℕ) → o ≤ 4 → m ≡ trailingZeros 64 (fives (behindOnes o w)) + 5 - o → 56 ≤ m → 56 ≡ untilFive (lowBits 56 w) o
+pub until-all : (o w m : ℕ) → o ≤ 4 → m ≡ trailingZeros 64 (fiveOnes (behindOnes o w)) + 5 - o → 56 ≤ m → 56 ≡ untilFive (lowBits 56 w) o
 until-all o w m h e l = sym (until-five 56 o w 64 h (omega arith) ∙ ap (min 56) (sym e) ∙ min-eq-left l)
 
 -- ---- the ones that end a word
@@ -281,7 +160,7 @@ end-ones (suc k) w o h other =
         let p : 2 ^ suc k ≡ 2 ^ k * 2 = pow-suc 2 k in
         let pos : 0 < 2 ^ k = pow-pos k in
         let all : w / 2 ≡ 2 ^ k - 1 = eqb-true _ _ e in
-        let even : odd w ≡ false = odd-isnt w (omega (arith, other)) in
+        let even : odd w ≡ false = odd-even w (omega (arith, other)) in
         let none : 2 ^ k - 1 - w / 2 ≡ 0 = omega arith in
         let z : k + 0 ≡ k = omega arith in
         ap (λ (t : Bool). endOnes (t ∷ lowBits k (w / 2)) o) even ∙ ap (λ (v : ℕ). endOnes (lowBits k v) 0) all ∙ end-ones-all k 0 ∙ z

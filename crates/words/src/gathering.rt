@@ -18,7 +18,7 @@ fn put_byte(stored: &mut [u8; 21], i: usize, byte: u8)
     }
 }
 
-// The first bits that the bytes have, so many: at most 169, of which the last is 0 if there are so many.
+// The first bits that the bytes have, so many: at most 169, and all of them 0 if there are so many.
 pub fn kept(stored: &mut [u8; 21], count: usize) -> Gathered
     requires { ⌜ count ≤ 169 ⌝ }
     ensures { λ r. ⌜ ((y : List Bool) → length y ≡ count → now (stored .entry) ≡ fillBytes 21 y → (168 < count → y ≡ replicate 169 false) → Gathers r (now (stored .exit)) y)

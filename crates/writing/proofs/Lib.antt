@@ -1,3 +1,3 @@
--- The laws of `writing`: the bits of a packet in turn, and the length of its frame.
+-- The laws of `writing`: what a packet consists of, and the length of its frame.
 pub mod PacketWriting
 pub mod FrameLength

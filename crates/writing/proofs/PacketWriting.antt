@@ -1,16 +1,14 @@
--- A slot's next packet is what stands before the message's bytes in it, and a part of the message: its bits are those of its bytes in the
--- order in which these are known.
+-- A slot's next packet is what stands before the message's bytes in it, and a part of the message.
 use Prim.Native.Nat.{ℕ, _+_, _-_, _≤_}
 use native.Mathlib.Omega.{arith}
-use mathlib.Core.Bool.{Bool, true}
-use mathlib.Core.List.{List, [], _∷_, _++_, append-nil, append-assoc}
-use mathlib.Core.Path.{_≡_, ap, _∙_}
+use mathlib.Core.Bool.{true}
+use mathlib.Core.List.{List, [], _∷_, _++_, append-assoc}
+use mathlib.Core.Path.{_≡_, sym, _∙_}
 use borrow.Author.Tests.{eq-eqb, ne-eqb, ltb-true}
-use lib.ListN.{length, take, drop, getD}
-use Rattle.bits.specs.Bits.{byteBits, bitsOf}
-use Rattle.bits.proofs.Bits.{bitsOf-append}
-use Rattle.hdlc.proofs.Writing.{bitsOf-step, bitsOf-none}
-use Rattle.hdlc.proofs.InTurn.{bitsOf-cons, bitsOf-pieces}
+use lib.ListN.{length, take, drop, getD, drop-of-length-le}
+use lib.Seq.{drop-cons}
+use Rattle.hdlc.specs.Leads.{led}
+use Rattle.hdlc.proofs.Leads.{led-append}
 use Rattle.packet.specs.declared.Circuit.{Circuit}
 use Rattle.packet.specs.declared.Part.{Part}
 use Rattle.packet.specs.Messages.{header, packets, partOf}
@@ -20,49 +18,34 @@ use Rattle.offering.specs.declared.Slot.{Slot}
 use Rattle.offering.specs.Record.{pending}
 use Rattle.writing.specs.PacketParts.{packetAt, controlAt, addressAt, headerAt, leadOf, partAt}
 
--- the address, the control byte and the extension, in turn
-module _ (c : Circuit) (t : Slot) where
-  pub bitsOf-addressAt : bitsOf (addressAt c t) ≡ byteBits (c .address) ++ bitsOf (controlAt c t ∷ extensionOf c)
-  unfolding addressAt
-  bitsOf-addressAt = bitsOf-cons (c .address) (controlAt c t ∷ extensionOf c)
-
-  pub bitsOf-controlAt : {k : ℕ} → k ≡ controlAt c t → bitsOf (controlAt c t ∷ extensionOf c) ≡ byteBits k ++ bitsOf (extensionOf c)
-  bitsOf-controlAt e = rw e (bitsOf-cons (controlAt c t) (extensionOf c))
-
-pub bitsOf-extension-none : (c : Circuit) → c .extended ≡ 0 → bitsOf (extensionOf c) ≡ []
-unfolding extensionOf bitsOf
-bitsOf-extension-none c e = rw (eq-eqb (c .extended) 0 e)
-
-pub bitsOf-extension : (c : Circuit) → (c .extended ≡ 0 → ⊥) → bitsOf (extensionOf c) ≡ byteBits (c .extension)
-unfolding extensionOf bitsOf
-bitsOf-extension c n = rw (ne-eqb (c .extended) 0 n, append-nil)
-
--- the header's bytes, in turn, in a first packet, and none in a later one
+-- the header: none in a later packet, and in a first one a byte or two
 module _ (t : Slot) where
-  pub bitsOf-headerAt-later : (t .place ≡ 0 → ⊥) → bitsOf (headerAt t) ≡ []
-  unfolding headerAt bitsOf
-  bitsOf-headerAt-later n = rw (ne-eqb (t .place) 0 n)
-
-  pub bitsOf-headerAt : {b : ℕ} → t .place ≡ 0 → b ≡ getD (header (t .length)) 0 0
-      → bitsOf (headerAt t) ≡ byteBits b ++ bitsOf (drop 1 (header (t .length)))
+  pub headerAt-later : (t .place ≡ 0 → ⊥) → [] ≡ headerAt t
   unfolding headerAt
-  bitsOf-headerAt z e = rw (eq-eqb (t .place) 0 z, e) (bitsOf-step (header (t .length)) 0 (omega (arith, length-header (t .length))))
+  headerAt-later n = rw (ne-eqb (t .place) 0 n)
 
-pub bitsOf-header-none : (n : ℕ) {len : ℕ} → len ≡ length (header n) → len ≡ 1 → bitsOf (drop 1 (header n)) ≡ []
-bitsOf-header-none n l one = bitsOf-none (header n) 1 (omega arith)
+  module _ (z : t .place ≡ 0) {len first : ℕ} (l : len ≡ length (header (t .length))) (e : first ≡ getD (header (t .length)) 0 0) where
+    headerAt-first : first ∷ drop 1 (header (t .length)) ≡ headerAt t
+    unfolding headerAt
+    headerAt-first = rw (eq-eqb (t .place) 0 z, e) (sym (drop-cons (header (t .length)) 0 0 (omega (arith, length-header (t .length)))))
 
-pub bitsOf-header-second : (n : ℕ) {len b : ℕ} → len ≡ length (header n) → (len ≡ 1 → ⊥) → b ≡ getD (header n) 1 0
-    → bitsOf (drop 1 (header n)) ≡ byteBits b
-bitsOf-header-second n l more e =
-    rw e
-    (bitsOf-step (header n) 1 (omega (arith, length-header n))
-    ∙ ap (λ (bs : List Bool). byteBits (getD (header n) 1 0) ++ bs) (bitsOf-none (header n) (1 + 1) (omega (arith, length-header n)))
-    ∙ append-nil (byteBits (getD (header n) 1 0)))
+    pub headerAt-one : len ≡ 1 → first ∷ [] ≡ headerAt t
+    headerAt-one o = rw (drop-of-length-le (header (t .length)) {i = 1} (omega arith)) at headerAt-first
 
--- both, in turn
-pub bitsOf-leadOf : (c : Circuit) (t : Slot) → bitsOf (leadOf c t) ≡ bitsOf (addressAt c t) ++ bitsOf (headerAt t)
-unfolding leadOf
-bitsOf-leadOf c t = bitsOf-append (addressAt c t) (headerAt t)
+    pub headerAt-two : (len ≡ 1 → ⊥) → {second : ℕ} → second ≡ getD (header (t .length)) 1 0 → first ∷ second ∷ [] ≡ headerAt t
+    headerAt-two more e′ =
+        let two : length (header (t .length)) ≡ 2 = omega (arith, length-header (t .length)) in
+        rw (drop-cons (header (t .length)) 1 0 (omega arith), drop-of-length-le (header (t .length)) {i = 2} (omega arith), ← e′) at headerAt-first
+
+-- what stands before the message's bytes, without and with an extension
+module _ (c : Circuit) (t : Slot) {k : ℕ} (e : k ≡ controlAt c t) {h : List ℕ} (f : h ≡ headerAt t) where
+  pub leadOf-plain : c .extended ≡ 0 → c .address ∷ k ∷ h ≡ leadOf c t
+  unfolding leadOf addressAt extensionOf
+  leadOf-plain z = rw (eq-eqb (c .extended) 0 z, e, f)
+
+  pub leadOf-extended : (c .extended ≡ 0 → ⊥) → c .address ∷ k ∷ c .extension ∷ h ≡ leadOf c t
+  unfolding leadOf addressAt extensionOf
+  leadOf-extended n = rw (ne-eqb (c .extended) 0 n, e, f)
 
 -- the part of the message in the packet lies in the message
 module _ (t : Slot) {part : Part} (p : part ≡ partOf (t .length) (t .place)) where
@@ -76,11 +59,12 @@ module _ (t : Slot) {part : Part} (p : part ≡ partOf (t .length) (t .place)) w
       let n : part .from + part .len - part .from ≡ part .len = omega arith in
       rw (n, p)
 
--- the packet is these bytes and the part of the message, in turn
+-- the packet is what stands before the message's bytes, and behind that the part of the message
 packetAt-lead : (c : Circuit) (t : Slot) (m : List ℕ) → length m ≡ t .length → packetAt c t m ≡ leadOf c t ++ partAt t m
 unfolding packetAt packetOf leadOf addressAt headerAt controlAt partAt
 packetAt-lead c t m e = rw (segment-part m (t .place), e, append-assoc)
 
-module _ (c : Circuit) (t : Slot) (m : List ℕ) (e : length m ≡ t .length) where
-  pub bitsOf-packetAt : bitsOf (packetAt c t m) ≡ bitsOf (leadOf c t) ++ bitsOf (partAt t m)
-  bitsOf-packetAt = bitsOf-pieces (leadOf c t) (partAt t m) (packetAt-lead c t m e)
+-- so it is the bytes of a number and that part
+pub packetAt-led : (c : Circuit) (t : Slot) (m : List ℕ) (lead n : ℕ) {part : List ℕ} → length m ≡ t .length → led lead n [] ≡ leadOf c t
+    → part ≡ partAt t m → led lead n part ≡ packetAt c t m
+packetAt-led c t m lead n {part} l e p = led-append lead n part ∙ rw (e, p) (sym (packetAt-lead c t m l))

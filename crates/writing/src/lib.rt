@@ -1,30 +1,26 @@
-// The frame of the first copy waiting at a circuit, written. No byte of the packet is kept: each is stuffed as it is known.
+// The frame of the first copy waiting at a circuit, written. No packet is kept in an array: what stands before the message's bytes is a number,
+// and each byte is stuffed from there or from the store.
 ghost use mathlib.Core.Path.{_≡_};
 ghost use mathlib.Core.Bool.{true};
-ghost use mathlib.Core.List.{_++_};
+ghost use mathlib.Core.List.{[], _++_};
 ghost use Prim.Native.Nat.{_≤_, _<_};
 ghost use lib.ListN.{length};
-ghost use Rattle.bits.specs.Bits.{bitsOf};
 ghost use Rattle.hdlc.specs.Frames.{flag, frame};
-ghost use Rattle.hdlc.specs.Writing.{Room, Written, Stuffed, stuffedBy};
+ghost use Rattle.hdlc.specs.Leads.{led};
+ghost use Rattle.hdlc.specs.Writing.{Room, Written};
 ghost use Rattle.offering.specs.Record.{storeLength, slotAt, pending, slotInRange, inRange, messageAt};
 ghost use Rattle.writing.specs.NextFrame.{nextFrame};
-ghost use Rattle.writing.specs.PacketParts.{packetAt, controlAt, addressAt, headerAt, leadOf, partAt};
-use hdlc::Pen;
+ghost use Rattle.writing.specs.PacketParts.{packetAt, controlAt, headerAt, leadOf, partAt};
+use hdlc::led::below;
 use offering::Sender;
 use offering::Slot;
 use packet::Circuit;
 use packet::Part;
 
-// The pen, copied field by field: copied at once, it is read before its fields, stored one by one, are there.
-fn same(pen: Pen) -> Pen
-    ensures { λ r. ⌜ r ≡ pen ⌝ }
-{
-    Pen {
-        at: pen.at,
-        free: pen.free,
-        fcs: pen.fcs,
-    }
+// Bytes that stand in a number, the first one lowest, and how many they are.
+struct Lead {
+    bytes: u64,
+    len: usize,
 }
 
 // The control byte of a slot's next packet.
@@ -43,47 +39,49 @@ fn control_byte(circuit: Circuit, slot: Slot) -> u8
     )
 }
 
-// The address, the control byte and the extension, where present, of a slot's next packet, written at the pen.
-fn put_address(buf: &mut [u8], pen: Pen, circuit: Circuit, slot: Slot) -> Pen
+// The header of a slot's message, if its next packet is the first.
+fn header_of(slot: Slot) -> Lead
     requires { ⌜ slotInRange slot ≡ true ⌝ }
-    requires { ⌜ circuit .extended < 2 ⌝ }
-    requires { ⌜ Room (now buf) (pen .at) (stuffedBy pen (bitsOf (addressAt circuit slot))) ⌝ }
-    ensures { λ r. ⌜ Stuffed (now (buf .entry)) pen (bitsOf (addressAt circuit slot)) (now (buf .exit)) r ⌝ }
-{
-    let p = hdlc::stuff_byte(buf, pen, circuit.address);
-    let q = hdlc::stuff_byte(buf, p, control_byte(circuit, slot));
-    if circuit.extended == 0 {
-        return same(q);
-    }
-    hdlc::stuff_byte(buf, q, circuit.extension)
-}
-
-// The header of a slot's message written at the pen, if its next packet is the first.
-fn put_header(buf: &mut [u8], pen: Pen, slot: Slot) -> Pen
-    requires { ⌜ slotInRange slot ≡ true ⌝ }
-    requires { ⌜ Room (now buf) (pen .at) (stuffedBy pen (bitsOf (headerAt slot))) ⌝ }
-    ensures { λ r. ⌜ Stuffed (now (buf .entry)) pen (bitsOf (headerAt slot)) (now (buf .exit)) r ⌝ }
+    ensures { λ r. ⌜ (led (r .bytes) (r .len) [] ≡ headerAt slot) × (r .bytes < 65536) × (r .len ≤ 2) ⌝ }
 {
     if slot.place != 0 {
-        return same(pen);
+        return Lead { bytes: 0, len: 0 };
     }
     let n = slot.length as usize;
-    let p = hdlc::stuff_byte(buf, pen, packet::header_first(n));
+    let first = packet::header_first(n);
     if packet::header_length(n) == 1 {
-        return same(p);
+        return Lead {
+            bytes: below(first, 0),
+            len: 1,
+        };
     }
-    hdlc::stuff_byte(buf, p, packet::header_second(n))
+    let second = below(packet::header_second(n), 0);
+    Lead {
+        bytes: below(first, second),
+        len: 2,
+    }
 }
 
-// What stands before the message's bytes in a slot's next packet, written at the pen.
-fn put_lead(buf: &mut [u8], pen: Pen, circuit: Circuit, slot: Slot) -> Pen
+// What stands before the message's bytes in a slot's next packet.
+fn lead_of(circuit: Circuit, slot: Slot) -> Lead
     requires { ⌜ slotInRange slot ≡ true ⌝ }
     requires { ⌜ circuit .extended < 2 ⌝ }
-    requires { ⌜ Room (now buf) (pen .at) (stuffedBy pen (bitsOf (leadOf circuit slot))) ⌝ }
-    ensures { λ r. ⌜ Stuffed (now (buf .entry)) pen (bitsOf (leadOf circuit slot)) (now (buf .exit)) r ⌝ }
+    ensures { λ r. ⌜ (led (r .bytes) (r .len) [] ≡ leadOf circuit slot) × (0 < r .len) ⌝ }
 {
-    let p = put_address(buf, pen, circuit, slot);
-    put_header(buf, p, slot)
+    let header = header_of(slot);
+    let control = control_byte(circuit, slot);
+    if circuit.extended == 0 {
+        let others = below(control, header.bytes);
+        return Lead {
+            bytes: below(circuit.address, others),
+            len: 2 + header.len,
+        };
+    }
+    let others = below(control, below(circuit.extension, header.bytes));
+    Lead {
+        bytes: below(circuit.address, others),
+        len: 3 + header.len,
+    }
 }
 
 // The part of the message in a slot's next packet.
@@ -107,9 +105,8 @@ fn put_packet(buf: &mut [u8], at: usize, circuit: Circuit, slot: Slot, message: 
     requires { ⌜ Room (now buf) at (frame (packetAt circuit slot (now message)) ++ flag) ⌝ }
     ensures { λ r. ⌜ Written (now (buf .entry)) at (frame (packetAt circuit slot (now (message .entry))) ++ flag) (now (buf .exit)) r ⌝ }
 {
-    let pen = put_lead(buf, Pen::new(at), circuit, slot);
-    let end = hdlc::stuff_bytes(buf, pen, part_of(slot, message));
-    hdlc::end_frame(buf, end)
+    let lead = lead_of(circuit, slot);
+    hdlc::led::write_led(buf, at, lead.bytes, lead.len, part_of(slot, message))
 }
 
 // The message of a circuit, at the start of its region.

@@ -1,12 +1,9 @@
 -- `zero_bytes_from` meets its contract. The loop's invariant: the bits of the bytes from here on are all 0 exactly if those from the start are.
-use Prim.Native.Nat.{ℕ, _-_, _<_}
+use Prim.Native.Nat.{_-_}
 use mathlib.Core.Path.{_≡_, refl, _∙_}
 use native.Mathlib.Nat.{div-one}
 use native.Mathlib.Omega.{arith}
-use borrow.Author.Needs.{needs}
-use mir.Syntax.{w8}
-use mir.Val.{Fits}
-use lib.ListN.{length, drop, getD}
+use lib.ListN.{drop}
 use Rattle.bits.specs.Bits.{bitsOf}
 use Rattle.framing.specs.Range.{allZero}
 use Rattle.framing.proofs.Turns.{allZero-some, allZero-none, allZero-no-byte}
@@ -14,29 +11,22 @@ use Rattle.framing.proofs.zero_bytes_from.Statement.{statement}
 use Rattle.framing.proofs.zero_bytes_from.Tie as tie
 
 abbrev Inv-loop : tie.InvT-loop
-Inv-loop from bytes i₀ i = allZero (bitsOf (drop i bytes)) ≡ allZero (bitsOf (drop from bytes))
+Inv-loop bytes from i₀ i = allZero (bitsOf (drop i bytes)) ≡ allZero (bitsOf (drop from bytes))
 
 abbrev μ-loop : tie.MeasureT-loop
-μ-loop from bytes i₀ i = 21 - i
-
--- there are 21, each below 256
-long : (c : tie.Start Inv-loop μ-loop) → length (c .args .t1) ≡ 21
-long c = search needs
-
-small : (c : tie.Start Inv-loop μ-loop) (i : ℕ) → getD (c .args .t1) i 0 < 256
-small c i = let byte : Fits w8 (getD (c .args .t1) i 0) = search needs in byte .fits
+μ-loop bytes from i₀ i = 21 - i
 
 loop-holds : tie.Need-loop-holds Inv-loop μ-loop
 loop-holds c = refl
 
-array-read-if1 : tie.Need-array-read-if1 Inv-loop μ-loop
-array-read-if1 c = omega arith
+shared-slice-read-if1 : tie.Need-shared-slice-read-if1 Inv-loop μ-loop
+shared-slice-read-if1 c = omega arith
 
 returns : tie.Need-returns Inv-loop μ-loop
 returns c =
-    let start = c .before .before .before in
-    let loop = c .before .before .loop in
-    allZero-some (start .args .t1) (loop .i) 0 (omega (arith, long start)) (small start (loop .i)) (omega arith) (λ z. c .if1 .taken (rw div-one at z))
+    let loop = c .before .before .before .loop in
+    allZero-some (c .before .before .before .before .args .bytes .now) (loop .i) 0 (omega arith) (c .before .shared-slice-known .given (loop .i) .fits) (omega arith)
+    (λ z. c .if1 .taken (rw div-one at z))
     ∙ loop .inv
 
 add-i : tie.Need-add-i Inv-loop μ-loop
@@ -47,15 +37,13 @@ loop-less c = omega arith
 
 loop-again : tie.Need-loop-again Inv-loop μ-loop
 loop-again c =
-    let start = c .before .before .before in
-    let loop = c .before .before .loop in
-    allZero-none (start .args .t1) (loop .i) 0 (omega (arith, long start)) (small start (loop .i)) (omega arith) (rw div-one (c .if1 .left))
+    let loop = c .before .before .before .loop in
+    allZero-none (c .before .before .before .before .args .bytes .now) (loop .i) 0 (omega arith) (c .before .shared-slice-known .given (loop .i) .fits) (omega arith)
+    (rw div-one (c .if1 .left))
     ∙ loop .inv
 
 returns-2 : tie.Need-returns-2 Inv-loop μ-loop
-returns-2 c =
-    let start = c .before .before in
-    allZero-no-byte (start .args .t1) (c .before .loop .i) (omega (arith, long start)) ∙ c .before .loop .inv
+returns-2 c = allZero-no-byte (c .before .before .args .bytes .now) (c .before .loop .i) (omega arith) ∙ c .before .loop .inv
 
 pub zero-bytes-from-spec : {M : Type 1} → statement M
 zero-bytes-from-spec =
@@ -64,7 +52,7 @@ zero-bytes-from-spec =
     Inv-loop
     μ-loop
     loop-holds
-    array-read-if1
+    shared-slice-read-if1
     returns
     add-i
     loop-less

@@ -1,31 +1,22 @@
 -- `zero_from` meets its contract: a shift tells of the bits of the first byte, and the bytes behind it are looked at whole.
-use Prim.Native.Nat.{ℕ, _/_, _%_, _<_}
-use mathlib.Core.Path.{_≡_, ap, _∙_}
+use Prim.Native.Nat.{_/_, _%_}
+use mathlib.Core.Path.{ap, _∙_}
 use native.Mathlib.Omega.{arith}
 use borrow.Author.Needs.{needs}
-use mir.Syntax.{w8}
-use mir.Val.{Fits}
-use lib.ListN.{length, getD}
 use Rattle.bits.specs.Bits.{bitsOf}
 use Rattle.framing.specs.Range.{allZero}
 use Rattle.framing.proofs.Turns.{length-bits-21, allZero-some, allZero-none, allZero-end, drop-in-byte}
 use Rattle.framing.proofs.zero_from.Statement.{statement}
 use Rattle.framing.proofs.zero_from.Tie as tie
 
--- there are 21 bytes, each below 256
-long : (c : tie.Start) → length (c .args .t1) ≡ 21
-long c = search needs
-
-small : (c : tie.Start) (i : ℕ) → getD (c .args .t1) i 0 < 256
-small c i = let byte : Fits w8 (getD (c .args .t1) i 0) = search needs in byte .fits
-
 returns : tie.Need-returns
 returns c =
-    let start = c .before in
-    allZero-end (bitsOf (start .args .t1)) (start .args .from) (omega (arith, length-bits-21 (start .args .t1) (long start)))
+    let start = c .before .before in
+    let bytes = start .args .bytes .now in
+    allZero-end (bitsOf bytes) (start .args .from) (omega (arith, length-bits-21 bytes (start .pre)))
 
-array-read-if2 : tie.Need-array-read-if2
-array-read-if2 c = search needs
+shared-slice-read-if2 : tie.Need-shared-slice-read-if2
+shared-slice-read-if2 c = search needs
 
 cast-if2 : tie.Need-cast-if2
 cast-if2 c = search needs
@@ -35,10 +26,10 @@ shr-if2 c = search needs
 
 returns-2 : tie.Need-returns-2
 returns-2 c =
-    let start = c .before .before in
-    let bytes = start .args .t1 in
+    let start = c .before .before .before .before in
+    let bytes = start .args .bytes .now in
     let from = start .args .from in
-    allZero-some bytes (from / 8) (from % 8) (omega (arith, long start)) (small start (from / 8)) (omega arith) (c .if2 .taken)
+    allZero-some bytes (from / 8) (from % 8) (omega arith) (c .before .shared-slice-known2 .given (from / 8) .fits) (omega arith) (c .if2 .taken)
     ∙ ap allZero (drop-in-byte bytes from)
 
 add-zero-bytes-from : tie.Need-add-zero-bytes-from
@@ -49,11 +40,11 @@ zero-bytes-from-requires c κs = search needs
 
 returns-3 : tie.Need-returns-3
 returns-3 c =
-    let start = c .before .before .before in
-    let bytes = start .args .t1 in
+    let start = c .before .before .before .before .before in
+    let bytes = start .args .bytes .now in
     let from = start .args .from in
     c .zero-bytes-from .ensures
-    ∙ allZero-none bytes (from / 8) (from % 8) (omega (arith, long start)) (small start (from / 8)) (omega arith) (c .before .if2 .left)
+    ∙ allZero-none bytes (from / 8) (from % 8) (omega arith) (c .before .before .shared-slice-known2 .given (from / 8) .fits) (omega arith) (c .before .if2 .left)
     ∙ ap allZero (drop-in-byte bytes from)
 
 pub zero-from-spec : {M : Type 1} → statement M
@@ -61,7 +52,7 @@ zero-from-spec =
     tie.close
     (tie.spec
     returns
-    array-read-if2
+    shared-slice-read-if2
     cast-if2
     shr-if2
     returns-2

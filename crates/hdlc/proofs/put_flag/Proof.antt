@@ -1,9 +1,10 @@
 -- `hdlc::put_flag` meets its contract: 7E hex is put with a writer of its own.
 use native.Mathlib.Omega.{arith}
+use mathlib.Core.Path.{refl}
 use Rattle.bits.specs.Bits.{byteBits}
 use Rattle.hdlc.specs.Frames.{flag}
 use Rattle.hdlc.proofs.Ending.{length-flag}
-use Rattle.hdlc.proofs.ByWriter.{Written-put}
+use Rattle.hdlc.proofs.ByWriter.{WriterPut-number, Written-close}
 use borrow.Author.Needs.{needs}
 use Rattle.hdlc.proofs.put_flag.Statement.{statement}
 use Rattle.hdlc.proofs.put_flag.Tie as tie
@@ -27,7 +28,7 @@ unfolding flag byteBits
 returns c =
     let put = c .before .before .before .before .before .before in
     let new = put .before .before in
-    Written-put (new .before .before .before .args .at) 8 0x7e (new .new .ensures) (put .put .ensures) (c .before .before .close .ensures)
+    Written-close (new .new .ensures) (WriterPut-number 8 0x7e refl (put .put .ensures)) (c .before .before .close .ensures)
 
 pub put-flag-spec : {M : Type 1} → statement M
 put-flag-spec = tie.close (tie.spec new-requires put-requires close-requires same-length returns)

@@ -34,11 +34,11 @@ abbrev μ-loop : tie.MeasureT-loop
 loop-holds : tie.Need-loop-holds Inv-loop μ-loop
 loop-holds c = (omega arith, ToGo-start (c .before .before .pre), refl)
 
-shared-slice-read-stuff-byte : tie.Need-shared-slice-read-stuff-byte Inv-loop μ-loop
-shared-slice-read-stuff-byte c = omega arith
+shared-slice-read-stuff-by-bits : tie.Need-shared-slice-read-stuff-by-bits Inv-loop μ-loop
+shared-slice-read-stuff-by-bits c = omega arith
 
-stuff-byte-requires : tie.Need-stuff-byte-requires Inv-loop μ-loop
-stuff-byte-requires c κs =
+stuff-by-bits-requires : tie.Need-stuff-by-bits-requires Inv-loop μ-loop
+stuff-by-bits-requires c κs =
     let l = c .before .before .before in
     let bytes = l .before .before .before .args .bytes .now in
     ToGo-room (l .loop .inv .1) (byteBits (getD bytes (l .loop .i) 0)) (bitsOf (drop (l .loop .i + 1) bytes))
@@ -52,7 +52,7 @@ loop-less c = omega arith
 
 loop-again : tie.Need-loop-again Inv-loop μ-loop
 loop-again c =
-    let put = c .before .before .stuff-byte in
+    let put = c .before .before .stuff-by-bits in
     let l = c .before .before .before .before .before .before in
     let i = l .loop .i in
     let bytes = l .before .before .before .args .bytes .now in
@@ -82,8 +82,8 @@ stuff-in-turn-spec =
     Inv-loop
     μ-loop
     loop-holds
-    shared-slice-read-stuff-byte
-    stuff-byte-requires
+    shared-slice-read-stuff-by-bits
+    stuff-by-bits-requires
     add-i
     loop-less
     loop-again

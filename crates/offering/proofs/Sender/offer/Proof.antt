@@ -9,8 +9,7 @@ use Rattle.bits.proofs.Lists.{sets-part}
 use Rattle.packet.specs.Messages.{longest}
 use Rattle.packet.specs.Stores.{region}
 use Rattle.offering.specs.Offering.{offerRefusal, offeredStore}
-use Rattle.offering.proofs.Ranges.{inRange-facts}
-use Rattle.offering.proofs.Offers.{offerRefusal-zero, offer-refused, offer-accepted}
+use Rattle.offering.proofs.Offers.{offer-room, offer-refused, offer-accepted}
 use Rattle.offering.proofs.Sender.offer.Statement.{statement}
 use Rattle.offering.proofs.Sender.offer.Tie as tie
 
@@ -37,18 +36,14 @@ none c = omega arith
 accepted : (c : tie.Else1) → number (c .before .before .before .before .before) ≡ 0
 accepted c = sym (c .before .offer-refusal .ensures) ∙ none c
 
--- the circuit is one of four, and the message has its place in the circuit's region
+-- and the message has its place
 abbrev Room : tie.Start → Type 0
 Room c =
     let a = c .args in
     (a .circuit < 4) × (length (a .message .now) ≤ longest) × (region * a .circuit + length (a .message .now) ≤ length (a .store .now))
 
 room : (c : tie.Else1) → Room (c .before .before .before .before .before)
-unfolding region longest
-room c =
-    let facts = offerRefusal-zero _ _ _ _ _ _ (accepted c) in
-    let four = inRange-facts _ (facts .inRange) in
-    (omega arith, omega arith, omega arith)
+room c = offer-room _ _ _ _ _ _ (accepted c)
 
 mul-start : tie.Need-mul-start
 unfolding region longest

@@ -1,14 +1,42 @@
 -- `packet::Circuits::number_of` meets its contract. Assumes nothing.
-use Rattle.packet.specs.Circuits.{meets, numberFrom}
+use mathlib.Core.Path.{sym}
+use lib.ListN.{length-map}
+use lib.Seq.{length-take-le}
+use borrow.Author.Needs.{needs}
+use Rattle.packet.proofs.CircuitLists.{circuitsOf-listed}
 use Rattle.packet.proofs.Circuits.number_of.Statement.{statement}
 use Rattle.packet.proofs.Circuits.number_of.Tie as tie
 
-find-requires : tie.Need-find-requires
-find-requires c κs = tt
+bytes-requires : tie.Need-bytes-requires
+bytes-requires c κs = search needs
+
+bytes-listed-requires : tie.Need-bytes-listed-requires
+bytes-listed-requires c κs = search needs
+
+array-share-prefix-bytes : tie.Need-array-share-prefix-bytes
+array-share-prefix-bytes c = search needs
+
+slice-aggregate-number-in : tie.Need-slice-aggregate-number-in
+slice-aggregate-number-in c = sym (length-take-le _ _ (array-share-prefix-bytes (c .before)))
+
+number-in-requires : tie.Need-number-in-requires
+number-in-requires c κs = search needs
 
 returns : tie.Need-returns
-unfolding meets numberFrom
-returns c = c .find .ensures
+returns c =
+    let s = c .before .before .before .before in
+    let b = c .before .before .before .bytes in
+    let n = c .before .before .bytes-listed in
+    rw (circuitsOf-listed (s .args .self) (b .result) (n .result) (simp length-map at (s .good .0 .1 .1 .1 .0 .1 .0 .1)) (b .ensures) (n .ensures))
+    at (c .number-in .ensures)
 
 pub number-of-spec : {M : Type 1} → statement M
-number-of-spec = tie.close (tie.spec find-requires returns)
+number-of-spec =
+    tie.close
+    (tie.spec
+    bytes-requires
+    bytes-listed-requires
+    array-share-prefix-bytes
+    slice-aggregate-number-in
+    number-in-requires
+    returns)

@@ -1,53 +1,42 @@
 -- `packet::Circuits::refusal` meets its contract. Assumes nothing.
-use mathlib.Core.Path.{sym, _∙_}
-use Rattle.packet.specs.Circuits.{meets, circuitsRefusal}
+use mathlib.Core.Path.{sym}
+use lib.ListN.{length-map}
+use lib.Seq.{length-take-le}
+use borrow.Author.Needs.{needs}
+use Rattle.packet.proofs.CircuitLists.{circuitsOf-listed}
 use Rattle.packet.proofs.Circuits.refusal.Statement.{statement}
 use Rattle.packet.proofs.Circuits.refusal.Tie as tie
 
-any-requires : tie.Need-any-requires
-any-requires c κs = tt
+bytes-requires : tie.Need-bytes-requires
+bytes-requires c κs = search needs
+
+bytes-listed-requires : tie.Need-bytes-listed-requires
+bytes-listed-requires c κs = search needs
+
+array-share-prefix-bytes : tie.Need-array-share-prefix-bytes
+array-share-prefix-bytes c = search needs
+
+slice-aggregate-refusal : tie.Need-slice-aggregate-refusal
+slice-aggregate-refusal c = sym (length-take-le _ _ (array-share-prefix-bytes (c .before)))
+
+refusal-requires : tie.Need-refusal-requires
+refusal-requires c κs = search needs
 
 returns : tie.Need-returns
-unfolding circuitsRefusal meets
-returns c = rw (sym (c .before .any .ensures) ∙ c .if1 .taken)
-
-any-requires-2 : tie.Need-any-requires-2
-any-requires-2 c κs = tt
-
-returns-2 : tie.Need-returns-2
-unfolding circuitsRefusal meets
-returns-2 c =
-    rw (sym (c .before .before .before .any .ensures) ∙ c .before .before .if1 .left, sym (c .before .any2 .ensures) ∙ c .if2 .taken)
-
-two-alike-requires : tie.Need-two-alike-requires
-two-alike-requires c κs = tt
-
-returns-3 : tie.Need-returns-3
-unfolding circuitsRefusal meets
-returns-3 c =
-    rw (
-      sym (c .before .before .before .before .before .any .ensures) ∙ c .before .before .before .before .if1 .left,
-      sym (c .before .before .before .any2 .ensures) ∙ c .before .before .if2 .left,
-      sym (c .before .two-alike .ensures) ∙ c .if3 .taken,
-    )
-
-returns-4 : tie.Need-returns-4
-unfolding circuitsRefusal meets
-returns-4 c =
-    rw (
-      sym (c .before .before .before .before .before .any .ensures) ∙ c .before .before .before .before .if1 .left,
-      sym (c .before .before .before .any2 .ensures) ∙ c .before .before .if2 .left,
-      sym (c .before .two-alike .ensures) ∙ c .if3 .left,
-    )
+returns c =
+    let s = c .before .before .before .before in
+    let b = c .before .before .before .bytes in
+    let n = c .before .before .bytes-listed in
+    rw (circuitsOf-listed (s .args .self) (b .result) (n .result) (simp length-map at (s .good .0 .1 .1 .1 .0 .1 .0 .1)) (b .ensures) (n .ensures))
+    at (c .refusal .ensures)
 
 pub refusal-spec : {M : Type 1} → statement M
 refusal-spec =
     tie.close
     (tie.spec
-    any-requires
-    returns
-    any-requires-2
-    returns-2
-    two-alike-requires
-    returns-3
-    returns-4)
+    bytes-requires
+    bytes-listed-requires
+    array-share-prefix-bytes
+    slice-aggregate-refusal
+    refusal-requires
+    returns)

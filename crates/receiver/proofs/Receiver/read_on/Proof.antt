@@ -10,7 +10,7 @@ use lib.ListN.{getD}
 use lib.Seq.{length-take-le}
 use Rattle.bits.proofs.Bits.{Bytes-each}
 use Rattle.framing.proofs.ScanInRange.{Array21}
-use Rattle.receiver.proofs.ReadLaws.{before-scan, from-least, packet-fits, before-packet, ReadCalled-quiet, ReadCalled-packet}
+use Rattle.receiver.proofs.ReadLaws.{framing-in-range, before-scan, from-least, packet-fits, before-packet, ReadCalled-quiet, ReadCalled-packet}
 use Rattle.receiver.proofs.Receiver.read_on.Statement.{statement}
 use Rattle.receiver.proofs.Receiver.read_on.Tie as tie
 
@@ -21,17 +21,19 @@ array c =
     let byte : (i : ℕ) → Fits w8 (getD bits i 0) = λ i. search needs in
     record { long = search needs; each = Bytes-each bits (λ i. byte i .fits) }
 
-scan-requires : tie.Need-scan-requires
-scan-requires c κs =
+scan-known-requires : tie.Need-scan-known-requires
+scan-known-requires c κs =
     let s = c .before .before .before in
-    let a = s .args in
-    before-scan (a .self) (now (a .store)) (now (a .bytes)) (a .from) (a .to) (s .pre)
+    let a = s .args in (
+      (λ _. framing-in-range (a .self) (now (a .store)) (now (a .bytes)) (a .from) (a .to) (s .pre)),
+      before-scan (a .self) (now (a .store)) (now (a .bytes)) (a .from) (a .to) (s .pre),
+    )
 
 sub-bits : tie.Need-sub-bits
 sub-bits c =
     let s = c .before .before .before .before .before in
     let a = s .args in
-    omega (arith, from-least (a .self) (now (a .store)) (now (a .bytes)) (a .from) (a .to) (s .pre) (c .before .scan .ensures))
+    omega (arith, from-least (a .self) (now (a .store)) (now (a .bytes)) (a .from) (a .to) (s .pre) (c .before .scan-known .ensures))
 
 with-framing-requires : tie.Need-with-framing-requires
 with-framing-requires c κs = search needs
@@ -48,7 +50,7 @@ returns c =
     let scan = f .before .before in
     let s = scan .before .before .before .before in
     let a = s .args in
-    ReadCalled-quiet (a .self) (now (a .store)) (now (a .bytes)) (a .from) (a .to) (s .pre) (scan .scan .ensures) (f .with-framing .ensures)
+    ReadCalled-quiet (a .self) (now (a .store)) (now (a .bytes)) (a .from) (a .to) (s .pre) (scan .scan-known .ensures) (f .with-framing .ensures)
     (c .before .match .keys2) (c .quiet-notice .ensures)
 
 array-share-prefix-packet : tie.Need-array-share-prefix-packet
@@ -58,7 +60,7 @@ array-share-prefix-packet c =
     let scan = f .before .before in
     let s = scan .before .before .before .before in
     let a = s .args in
-    packet-fits (a .self) (now (a .store)) (now (a .bytes)) (a .from) (a .to) (s .pre) (scan .scan .ensures) (f .with-framing .ensures)
+    packet-fits (a .self) (now (a .store)) (now (a .bytes)) (a .from) (a .to) (s .pre) (scan .scan-known .ensures) (f .with-framing .ensures)
     (check .check .given .1) (array s)
 
 slice-aggregate-read-packet : tie.Need-slice-aggregate-read-packet
@@ -71,7 +73,7 @@ read-packet-requires c κs =
     let scan = f .before .before in
     let s = scan .before .before .before .before in
     let a = s .args in
-    before-packet (a .self) (now (a .store)) (now (a .bytes)) (a .from) (a .to) (s .pre) (scan .scan .ensures) (f .with-framing .ensures)
+    before-packet (a .self) (now (a .store)) (now (a .bytes)) (a .from) (a .to) (s .pre) (scan .scan-known .ensures) (f .with-framing .ensures)
     (check .check .given .1) (array s)
 
 same-length : tie.Need-same-length
@@ -85,14 +87,14 @@ returns-2 c =
     let scan = f .before .before in
     let s = scan .before .before .before .before in
     let a = s .args in
-    ReadCalled-packet (a .self) (now (a .store)) (now (a .bytes)) (a .from) (a .to) (s .pre) (scan .scan .ensures) (f .with-framing .ensures)
+    ReadCalled-packet (a .self) (now (a .store)) (now (a .bytes)) (a .from) (a .to) (s .pre) (scan .scan-known .ensures) (f .with-framing .ensures)
     (check .check .given .1) (reads .read-packet .ensures)
 
 pub read-on-spec : {M : Type 1} → statement M
 read-on-spec =
     tie.close
     (tie.spec
-    scan-requires
+    scan-known-requires
     sub-bits
     with-framing-requires
     enum-known-check

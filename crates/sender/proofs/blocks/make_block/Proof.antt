@@ -4,7 +4,7 @@ use native.Mathlib.Omega.{arith}
 use denote.Ref.{now}
 use mathlib.Core.Path.{_∙_, sym}
 use Rattle.sender.specs.BlockCalls.{system}
-use Rattle.sender.proofs.BlockSteps.{BlockCalled-refused}
+use Rattle.sender.proofs.BlockSteps.{BlockCalled-refused, BlockCalled-made}
 use Rattle.sender.proofs.blocks.make_block.Statement.{statement}
 use Rattle.sender.proofs.blocks.make_block.Tie as tie
 
@@ -28,7 +28,10 @@ same-length-2 : tie.Need-same-length-2
 same-length-2 c = search needs
 
 returns-2 : tie.Need-returns-2
-returns-2 c = c .before .before .write-block .ensures
+returns-2 c =
+    let a = c .before .before .before .before .before .before .before .before .before .before .before .args in
+    BlockCalled-made (a .sender) (now (a .store)) (now (a .buf)) (a .n) (a .u)
+    (system (a .wanted) (a .enable) (a .code) (now (a .information))) (sym (c .before .before .before .before .before .before .refusal .ensures) ∙ c .before .before .before .before .before .if1 .left) (c .before .before .before .write-block .ensures)
 
 pub make-block-spec : {M : Type 1} → statement M
 make-block-spec =

@@ -3,7 +3,7 @@ use borrow.Author.Needs.{needs}
 use denote.Ref.{now}
 use Rattle.bits.proofs.Bits.{Bytes-each}
 use Rattle.sender.specs.BlockCalls.{system}
-use Rattle.sender.proofs.BlockSteps.{before-opening, before-frames, before-closing, BlockCalled-made}
+use Rattle.sender.proofs.BlockSteps.{before-opening, before-frames, before-closing, BlockWritten-closed}
 use Rattle.sender.proofs.blocks.write_block.Statement.{statement}
 use Rattle.sender.proofs.blocks.write_block.Tie as tie
 
@@ -43,17 +43,17 @@ same-length c = search needs
 
 returns : tie.Need-returns
 returns c =
-    let end = c .before .before .before in
+    let end = c .before .before in
     let f = end .before .before .before .before in
     let rules = f .before .before in
     let opened = rules .before .before .before in
     let s = opened .before .before .before .before .before in
     let a = s .args in
-    BlockCalled-made (a .sender) (now (a .store)) (now (a .buf)) (a .n) (a .u)
+    BlockWritten-closed (a .sender) (now (a .store)) (now (a .buf)) (a .n) (a .u)
     (system (a .wanted) (a .enable) (a .code) (now (a .information))) (s .pre) (opened .put-opening .ensures) (opened .put-opening .kept .0)
     (rules .in-force .ensures (a .code) (now (a .information))) (f .fill .ensures) (f .fill .kept .0) (end .close .ensures)
     (Bytes-each (now (a .buf)) (λ i. opened .before .before .before .slice-known .given i .fits))
-    (Bytes-each (end .close .last .0) (λ i. c .before .slice-known4 .given i .fits))
+    (Bytes-each (end .close .last .0) (λ i. c .slice-known4 .given i .fits))
 
 pub write-block-spec : {M : Type 1} → statement M
 write-block-spec =

@@ -44,13 +44,8 @@ none c =
     let s = c .before .before in
     none-right (s .args .free) (s .args .byte) (s .pre) (omega arith) (rw (c .before .five-ones .ensures) at (c .if1 .taken))
 
-ended-requires : tie.Need-ended-requires
-ended-requires c κs =
-    let r = none c in
-    (r .fits, omega arith, r .few)
-
 returns : tie.Need-returns
-returns c = StuffedByte-of (c .ended .result) (none (c .before)) (omega arith) (omega arith) (c .ended .ensures)
+returns c = StuffedByte-of (none c) (omega arith) (omega arith)
 
 cast-k : tie.Need-cast-k
 cast-k c = omega (arith, trailing-le 32 (c .before .five-ones .result))
@@ -101,13 +96,8 @@ with-one c =
     rw (one-is (c .before .before))
     (one-right (s .args .free) (s .args .byte) (s .pre) (omega arith) (some (c .before .before .before)) (rw (second-is (c .before)) at (c .if2 .taken)))
 
-ended-requires-2 : tie.Need-ended-requires-2
-ended-requires-2 c κs =
-    let r = with-one c in
-    (r .fits, omega arith, r .few)
-
 returns-2 : tie.Need-returns-2
-returns-2 c = StuffedByte-of (c .ended2 .result) (with-one (c .before)) (omega arith) (omega arith) (c .ended2 .ensures)
+returns-2 c = StuffedByte-of (with-one c) (omega arith) (omega arith)
 
 cast-with-zero : tie.Need-cast-with-zero
 cast-with-zero c = omega (arith, trailing-le 32 (c .before .before .before .before .five-ones .result), trailing-le 32 (c .before .five-ones2 .result))
@@ -142,13 +132,8 @@ with-two c =
     let e = rw (one-is (c .before .before .before), second-is (c .before .before), c .before .before .before .before .before .five-ones .ensures) at (c .with-zero2 .ensures) in
     rw e (two-right (s .args .free) (s .args .byte) (s .pre) (omega arith) (some (c .before .before .before .before)) (more (c .before)))
 
-ended-requires-3 : tie.Need-ended-requires-3
-ended-requires-3 c κs =
-    let r = with-two c in
-    (r .fits, omega arith, r .few)
-
 returns-3 : tie.Need-returns-3
-returns-3 c = StuffedByte-of (c .ended3 .result) (with-two (c .before)) (omega arith) (omega arith) (c .ended3 .ensures)
+returns-3 c = StuffedByte-of (with-two c) (omega arith) (omega arith)
 
 pub of-spec : {M : Type 1} → statement M
 of-spec =
@@ -160,7 +145,6 @@ of-spec =
     shl-five-ones
     sub-five-ones-2
     five-ones-requires
-    ended-requires
     returns
     cast-k
     add-k
@@ -169,11 +153,9 @@ of-spec =
     cast-five-ones-2
     shr-five-ones
     five-ones-requires-2
-    ended-requires-2
     returns-2
     cast-with-zero
     add-with-zero
     add-with-zero-2
     with-zero-requires-2
-    ended-requires-3
     returns-3)
