@@ -9,7 +9,7 @@ use lib.ListN.{length, take, drop, getD, set, length-append, length-set}
 use lib.Seq.{sets, drop-at, split-at, set-split, set-getD, length-take-le}
 use lib.Pow.{split, pow-pos, pow-mono, shr-lt, shl-lt}
 use Rattle.bits.specs.Bits.{lowBits, byteBits, bitsOf}
-use Rattle.bits.specs.Writer.{Held, nextBit, withHeld}
+use Rattle.bits.specs.Writer.{PartHeld, nextBit, withHeld}
 use Rattle.bits.specs.declared.writer.BitWriter.{BitWriter}
 use Rattle.bits.proofs.Bits.{length-lowBits, length-byteBits, length-bitsOf, bitsOf-append, bitsOf-set}
 use Rattle.bits.proofs.Lists.{sets-append, sets-behind}
@@ -93,7 +93,7 @@ module _ (s : List ℕ) (i : ℕ) (inside : i < length s) where
         rw e (rw w′ at l)
 
 -- n bits, at most 16, put behind the held ones
-module _ (w : BitWriter) (held : Held w) (n value : ℕ) (few : n ≤ 16) (fits : value < 2 ^ n) where
+module _ (w : BitWriter) (held : PartHeld w) (n value : ℕ) (few : n ≤ 16) (fits : value < 2 ^ n) where
   -- all of them as a number
   abbrev all : ℕ
   all = w .bits + value * 2 ^ w .count
@@ -121,7 +121,7 @@ module _ (w : BitWriter) (held : Held w) (n value : ℕ) (few : n ≤ 16) (fits 
   -- one byte is full
   pub one-full : (s : List ℕ) → w .byte < length s → 8 ≤ n → w .count + n - 8 < 8 →
       let r : BitWriter = record { byte = w .byte + 1; count = w .count + n - 8; bits = all / 256 } in
-      Held r × (nextBit r ≡ nextBit w + n) × (withHeld (set s (w .byte) (all % 256)) r ≡ sets (withHeld s w) (nextBit w) (lowBits n value))
+      PartHeld r × (nextBit r ≡ nextBit w + n) × (withHeld (set s (w .byte) (all % 256)) r ≡ sets (withHeld s w) (nextBit w) (lowBits n value))
   unfolding withHeld
   one-full s inside least less =
       let e : w .count + n - 8 + 8 ≡ w .count + n = omega arith in
@@ -134,7 +134,7 @@ module _ (w : BitWriter) (held : Held w) (n value : ℕ) (few : n ≤ 16) (fits 
   -- two are
   pub two-full : (s : List ℕ) → w .byte + 1 < length s → 8 ≤ w .count + n - 8 →
       let r : BitWriter = record { byte = w .byte + 2; count = w .count + n - 8 - 8; bits = all / 65536 } in
-      Held r × (nextBit r ≡ nextBit w + n)
+      PartHeld r × (nextBit r ≡ nextBit w + n)
       × (withHeld (set (set s (w .byte) (all % 256)) (w .byte + 1) (all / 256 % 256)) r ≡ sets (withHeld s w) (nextBit w) (lowBits n value))
   unfolding withHeld
   two-full s inside more =

@@ -7,7 +7,7 @@ use Rattle.bits.specs.Bits.{lowBits, bitsOf}
 use Rattle.bits.specs.declared.writer.BitWriter.{BitWriter}
 
 -- fewer bits are held than make a byte, and no others
-pub record Held (w : BitWriter) : Type 0 where
+pub record PartHeld (w : BitWriter) : Type 0 where
   pub few : w .count < 8
   pub only : w .bits < 2 ^ w .count
 

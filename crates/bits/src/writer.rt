@@ -4,7 +4,7 @@ ghost use Prim.Native.Nat.{_+_, _*_, _^_, _≤_, _<_};
 ghost use lib.ListN.{length};
 ghost use lib.Seq.{sets};
 ghost use Rattle.bits.specs.Bits.{lowBits, bitsOf};
-ghost use Rattle.bits.specs.Writer.{Held, nextBit, withHeld};
+ghost use Rattle.bits.specs.Writer.{PartHeld, nextBit, withHeld};
 use crate::power;
 
 // The number of the byte to be filled, how many of its lowest bits are held, and these.
@@ -18,7 +18,7 @@ impl BitWriter {
     // A writer whose next bit is bit `at`. It holds the bits that its byte has before that one.
     pub fn new(s: &[u8], at: usize) -> BitWriter
         requires { ⌜ at < 8 * length (now s) ⌝ }
-        ensures { λ r. ⌜ Held r × (nextBit r ≡ at) × (withHeld (now (s .entry)) r ≡ bitsOf (now (s .entry))) ⌝ }
+        ensures { λ r. ⌜ PartHeld r × (nextBit r ≡ at) × (withHeld (now (s .entry)) r ≡ bitsOf (now (s .entry))) ⌝ }
     {
         let byte = at / 8;
         let count = at % 8;
@@ -28,8 +28,8 @@ impl BitWriter {
 
     // The n lowest bits of a number written, 8 to 16 of them.
     pub fn put(self, s: &mut [u8], n: usize, value: u32) -> BitWriter
-        requires { ⌜ Held self × (nextBit self + n ≤ 8 * length (now s)) × (8 ≤ n) × (n ≤ 16) × (value < 2 ^ n) ⌝ }
-        ensures { λ r. ⌜ Held r × (nextBit r ≡ nextBit self + n)
+        requires { ⌜ PartHeld self × (nextBit self + n ≤ 8 * length (now s)) × (8 ≤ n) × (n ≤ 16) × (value < 2 ^ n) ⌝ }
+        ensures { λ r. ⌜ PartHeld r × (nextBit r ≡ nextBit self + n)
             × (withHeld (now (s .exit)) r ≡ sets (withHeld (now (s .entry)) self) (nextBit self) (lowBits n value)) ⌝ }
     {
         let byte = self.byte;
@@ -53,7 +53,7 @@ impl BitWriter {
 
     // The held bits written, and the number of the bit behind them.
     pub fn close(self, s: &mut [u8]) -> usize
-        requires { ⌜ Held self × (nextBit self ≤ 8 * length (now s)) × (nextBit self < 2 ^ 64) ⌝ }
+        requires { ⌜ PartHeld self × (nextBit self ≤ 8 * length (now s)) × (nextBit self < 2 ^ 64) ⌝ }
         ensures { λ r. ⌜ (r ≡ nextBit self) × (bitsOf (now (s .exit)) ≡ withHeld (now (s .entry)) self) ⌝ }
     {
         let byte = self.byte;

@@ -17,8 +17,6 @@ pub mod RangeExact
 pub mod Scanned
 pub mod ScanFindsFirst
 pub mod ScanInRange
-pub mod Stretches
-pub mod WordsRead
 pub mod Stepping
 pub mod Turns
 pub mod Cutting

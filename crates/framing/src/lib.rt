@@ -1,4 +1,4 @@
-// Reading HDLC framing: the framing record, one step of it by a bit, the check of a closed body, and a scan over lent bytes, by words where that can be (`at_once`).
+// Reading HDLC framing: the framing record, its range, one step of it by a bit, and the check of a closed body.
 ghost use mathlib.Core.Path.{_≡_};
 ghost use mathlib.Core.Bool.{true, false, cond};
 ghost use mathlib.Core.List.{List, _++_};
@@ -11,9 +11,6 @@ ghost use Rattle.hdlc.specs.Stuffing.{endOnes};
 ghost use Rattle.framing.specs.Heads.{overwritten, framingOf};
 ghost use Rattle.framing.specs.Machine as machine;
 ghost use Rattle.framing.specs.Range as range;
-ghost use Rattle.framing.specs.Scanning as scanning;
-
-mod at_once;
 
 // What is kept between two bits (specs/Machine.antt has the meaning of each field).
 pub struct Framing {
@@ -51,21 +48,9 @@ pub struct Head {
     pub count: u8,
 }
 
-// How far bits outside a body were read at once: the ones behind the last zero, and the number of the next bit.
-struct Hunt {
-    ones: u8,
-    at: usize,
-}
-
-// How far bits were read at once: the numbers of the framing then, and the number of the next bit.
-struct Ahead {
-    head: Head,
-    at: usize,
-}
-
 impl Head {
     // The framing of this head and these bits.
-    fn framing(self, bits: [u8; 21]) -> Framing
+    pub fn framing(self, bits: [u8; 21]) -> Framing
         ensures { λ r. ⌜ r ≡ framingOf self bits ⌝ }
     {
         Framing {
@@ -147,7 +132,7 @@ impl Head {
     }
 
     // One more bit read.
-    fn step(self, bit: bool, bits: &mut [u8; 21]) -> Head
+    pub fn step(self, bit: bool, bits: &mut [u8; 21]) -> Head
         ensures { λ r. ⌜ framingOf r (now (bits .exit)) ≡ machine.step (framingOf self (now (bits .entry))) bit ⌝ }
     {
         if bit {
@@ -224,7 +209,7 @@ impl Framing {
     }
 
     // The numbers without the bits.
-    fn head(self) -> Head
+    pub fn head(self) -> Head
         ensures { λ r. ⌜ framingOf r (self .bits) ≡ self ⌝ }
     {
         Head {
@@ -302,66 +287,6 @@ impl Framing {
         let bits = self.bits;
         self.head().in_range(&bits)
     }
-
-    // Whether this is known to be a framing that bits leave; it is asked only where there are words to read.
-    fn known(self, from: usize, to: usize) -> bool
-        requires { ⌜ from ≤ to ⌝ }
-        ensures { λ r. ⌜ (r ≡ true → range.inRange self ≡ true) ⌝ }
-    {
-        if to - from < 64 {
-            return false;
-        }
-        self.in_range()
-    }
-
-    // The bits from number `from` to number `to` read, up to the first body that passes or is spoilt.
-    pub fn scan(self, bytes: &[u8], from: usize, to: usize) -> Scan
-        requires { ⌜ (from ≤ to) × (to ≤ 8 * length (now bytes)) ⌝ }
-        ensures { λ r. ⌜ r ≡ scanning.scan self from (slice from to (bitsOf (now (bytes .entry)))) ⌝ }
-    {
-        let known = self.known(from, to);
-        self.scan_known(known, bytes, from, to)
-    }
-
-    // The same, words at once where that can be, and else bit by bit; `known` is whether bits are known to leave this framing.
-    pub fn scan_known(self, known: bool, bytes: &[u8], from: usize, to: usize) -> Scan
-        requires { ⌜ (known ≡ true → range.inRange self ≡ true) ⌝ }
-        requires { ⌜ (from ≤ to) × (to ≤ 8 * length (now bytes)) ⌝ }
-        ensures { λ r. ⌜ r ≡ scanning.scan self from (slice from to (bitsOf (now (bytes .entry)))) ⌝ }
-    {
-        let mut bits = self.bits;
-        let mut head = self.head();
-        let mut at = from;
-        while at < to {
-            let ahead = head.ahead(known, bytes, at, to, &mut bits);
-            head = ahead.head;
-            at = ahead.at;
-            if at == to {
-                continue;
-            }
-            let bit = bits::reader::bit_at(bytes, at);
-            if head.framing(bits).closes(bit) {
-                let framing = head.framing(bits);
-                let check = framing.check();
-                let Check::Nothing = check else {
-                    return Scan {
-                        framing: framing.step(bit),
-                        at: at + 1,
-                        check: check,
-                        bytes: bits,
-                    };
-                };
-            }
-            head = head.step(bit, &mut bits);
-            at += 1;
-        }
-        Scan {
-            framing: head.framing(bits),
-            at: at,
-            check: Check::Nothing,
-            bytes: [0; 21],
-        }
-    }
 }
 
 // A number of zeros and then a number of ones, written from bit `at` on.
@@ -374,7 +299,7 @@ fn put_held(bytes: &mut [u8], at: usize, zeros: usize, ones: usize)
 }
 
 // How many zeros are held back as plain bits, in a phase.
-fn plain_zeros(phase: u8) -> usize
+pub fn plain_zeros(phase: u8) -> usize
     ensures { λ r. ⌜ r ≡ cond (eqb phase 3) 1 0 ⌝ }
 {
     if phase == 3 { 1 } else { 0 }

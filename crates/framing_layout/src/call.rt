@@ -49,7 +49,7 @@ pub fn read(
         return number as u32;
     }
     let framing = framing_in(record, 0);
-    let scan = framing.scan_known(true, bits, from, to);
+    let scan = scanning::scan_known(framing, true, bits, from, to);
     let after = scan.framing;
     let check = scan.check;
     let bytes = scan.bytes;

@@ -10,7 +10,7 @@ use mathlib.Core.Path.{_≡_, refl, sym, ap, _∙_}
 use lib.ListN.{length, take, drop, getD, length-append, take-append-drop}
 use lib.Seq.{sets, take-suc}
 use Rattle.bits.specs.Bits.{lowBits, byteBits, bitsOf}
-use Rattle.bits.specs.Writer.{Held, nextBit, withHeld}
+use Rattle.bits.specs.Writer.{PartHeld, nextBit, withHeld}
 use Rattle.bits.specs.declared.writer.BitWriter.{BitWriter}
 use Rattle.bits.proofs.Bits.{length-lowBits, bitsOf-append}
 use Rattle.bits.proofs.Lists.{sets-append}
@@ -26,7 +26,7 @@ use Rattle.hdlc.proofs.Writing.{Put-Stuffed}
 
 -- the bits of a number put
 pub WriterPut-number : {old new : List ℕ} {bits : List Bool} {w v : BitWriter} (n value : ℕ) → lowBits n value ≡ bits →
-    Held v × (nextBit v ≡ nextBit w + n) × (withHeld new v ≡ sets (withHeld old w) (nextBit w) (lowBits n value)) → WriterPut old w bits new v
+    PartHeld v × (nextBit v ≡ nextBit w + n) × (withHeld new v ≡ sets (withHeld old w) (nextBit w) (lowBits n value)) → WriterPut old w bits new v
 WriterPut-number {w = w} n value e p =
     record {
       held = p .0;
@@ -35,7 +35,7 @@ WriterPut-number {w = w} n value e p =
     }
 
 -- pieces put one behind another
-WriterPut-nil : {l : List ℕ} {w : BitWriter} → Held w → WriterPut l w [] l w
+WriterPut-nil : {l : List ℕ} {w : BitWriter} → PartHeld w → WriterPut l w [] l w
 WriterPut-nil {w = w} h = record { held = h; behind = sym (add-zero (nextBit w)); buffer = refl }
 
 pub WriterPut-append : {old mid new : List ℕ} {w v u : BitWriter} (a b : List Bool) → WriterPut old w a mid v → WriterPut mid v b new u → WriterPut old w (a ++ b) new u
@@ -65,12 +65,12 @@ module _ (a b : List Bool) (free : ℕ) {l : List ℕ} {w : BitWriter} where
     stuffed-append q = rw stuffFrom-append (WriterPut-append (stuffFrom a free) (stuffFrom b (freeAfter a free)) p (rw f at q))
 
 -- with a writer of its own
-module _ {old : List ℕ} {at : ℕ} {w : BitWriter} (o : Held w × (nextBit w ≡ at) × (withHeld old w ≡ bitsOf old)) {bits : List Bool} where
+module _ {old : List ℕ} {at : ℕ} {w : BitWriter} (o : PartHeld w × (nextBit w ≡ at) × (withHeld old w ≡ bitsOf old)) {bits : List Bool} where
   pub WriterRoom-new : Room old at bits → WriterRoom old w bits
   WriterRoom-new r = record { held = o .0; within = omega (arith, o .1, r .within) }
 
   module _ {new : List ℕ} {v : BitWriter} (p : WriterPut old w bits new v) where
-    pub Room-close : Room old at bits → length new ≡ length old → Held v × (nextBit v ≤ 8 * length new) × (nextBit v < 2 ^ 64)
+    pub Room-close : Room old at bits → length new ≡ length old → PartHeld v × (nextBit v ≤ 8 * length new) × (nextBit v < 2 ^ 64)
     Room-close r e = (p .held, omega (arith, o .1, p .behind, r .within), omega (arith, o .1, p .behind, r .small))
 
     pub Written-close : {last : List ℕ} {end : ℕ} → (end ≡ nextBit v) × (bitsOf last ≡ withHeld new v) → Written old at bits last end
@@ -117,7 +117,7 @@ pub record Underway (old : List ℕ) (start : BitWriter) (first preset : ℕ) (d
   pub ones : free ≡ freeAfter done first
   pub register : fcs ≡ fcsRun preset done
 
-pub Underway-start : {old : List ℕ} {w : BitWriter} (free fcs : ℕ) → free ≤ 4 → Held w → Underway old w free fcs [] old w free fcs
+pub Underway-start : {old : List ℕ} {w : BitWriter} (free fcs : ℕ) → free ≤ 4 → PartHeld w → Underway old w free fcs [] old w free fcs
 unfolding stuffFrom freeAfter fcsRun
 Underway-start free fcs h o = record { long = refl; put = WriterPut-nil o; few = h; ones = refl; register = refl }
 

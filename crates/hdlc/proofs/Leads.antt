@@ -10,18 +10,18 @@ use Rattle.bits.specs.Bits.{bitsOf}
 use Rattle.bits.proofs.Bits.{bitsOf-append}
 use Rattle.hdlc.specs.Leads.{led, Below}
 
-pub led-append : (lead n : ℕ) (bytes : List ℕ) → led lead n bytes ≡ led lead n [] ++ bytes
+pub led-append : (number n : ℕ) (bytes : List ℕ) → led number n bytes ≡ led number n [] ++ bytes
 unfolding led
-led-append lead zero bytes = refl
-led-append lead (suc n) bytes = ap (λ (l : List ℕ). lead % 256 ∷ l) (led-append (lead / 256) n bytes)
+led-append number zero bytes = refl
+led-append number (suc n) bytes = ap (λ (l : List ℕ). number % 256 ∷ l) (led-append (number / 256) n bytes)
 
-pub bitsOf-led : (lead n : ℕ) (bytes : List ℕ) → bitsOf (led lead n bytes) ≡ bitsOf (led lead n []) ++ bitsOf bytes
-bitsOf-led lead n bytes = ap bitsOf (led-append lead n bytes) ∙ bitsOf-append (led lead n []) bytes
+pub bitsOf-led : (number n : ℕ) (bytes : List ℕ) → bitsOf (led number n bytes) ≡ bitsOf (led number n []) ++ bitsOf bytes
+bitsOf-led number n bytes = ap bitsOf (led-append number n bytes) ∙ bitsOf-append (led number n []) bytes
 
-pub length-led : (lead n : ℕ) → length (led lead n []) ≡ n
+pub length-led : (number n : ℕ) → length (led number n []) ≡ n
 unfolding led
-length-led lead zero = refl
-length-led lead (suc n) = ap suc (length-led (lead / 256) n)
+length-led number zero = refl
+length-led number (suc n) = ap suc (length-led (number / 256) n)
 
 -- a byte below others
 pub Below-sum : {byte others : ℕ} → byte < 256 → Below byte others (byte + 256 * others)
@@ -45,17 +45,17 @@ led-three {a} {three = three} p q r n behind =
     ap (λ (k : ℕ). led three k behind) e ∙ p .bytes (2 + n) behind ∙ ap (λ (l : List ℕ). a ∷ l) (led-two q r n behind)
 
 -- where the bytes from byte i on stand in `rest`, its lowest is byte i, and those behind it stand in the quotient
-module _ (lead n : ℕ) {i : ℕ} (rest : ℕ) (h : i < n) (e : drop i (led lead n []) ≡ led rest (n - i) []) where
-  both : getD (led lead n []) i 0 ∷ drop (i + 1) (led lead n []) ≡ rest % 256 ∷ led (rest / 256) (n - (i + 1)) []
+module _ (number n : ℕ) {i : ℕ} (rest : ℕ) (h : i < n) (e : drop i (led number n []) ≡ led rest (n - i) []) where
+  both : getD (led number n []) i 0 ∷ drop (i + 1) (led number n []) ≡ rest % 256 ∷ led (rest / 256) (n - (i + 1)) []
   unfolding led
   both =
-      let more : i < length (led lead n []) = omega (arith, length-led lead n) in
+      let more : i < length (led number n []) = omega (arith, length-led number n) in
       let k : n - i ≡ suc (n - (i + 1)) = omega arith in
-      let d : drop i (led lead n []) ≡ getD (led lead n []) i 0 ∷ drop (i + 1) (led lead n []) = rw add-one (drop-cons (led lead n []) i 0 more) in
+      let d : drop i (led number n []) ≡ getD (led number n []) i 0 ∷ drop (i + 1) (led number n []) = rw add-one (drop-cons (led number n []) i 0 more) in
       sym d ∙ e ∙ rw k
 
-  pub led-byte : getD (led lead n []) i 0 ≡ rest % 256
+  pub led-byte : getD (led number n []) i 0 ≡ rest % 256
   led-byte = cc (both)
 
-  pub led-behind : drop (i + 1) (led lead n []) ≡ led (rest / 256) (n - (i + 1)) []
+  pub led-behind : drop (i + 1) (led number n []) ≡ led (rest / 256) (n - (i + 1)) []
   led-behind = cc (both)

@@ -7,7 +7,7 @@ use lib.Bits.{bitAnd}
 use lib.ListN.{length}
 use lib.Seq.{sets}
 use Rattle.bits.specs.Bits.{lowBits, byteBits}
-use Rattle.bits.specs.Writer.{Held, nextBit, withHeld}
+use Rattle.bits.specs.Writer.{PartHeld, nextBit, withHeld}
 use Rattle.bits.specs.declared.writer.BitWriter.{BitWriter}
 use Rattle.hdlc.specs.Stuffing.{stuffFrom}
 use Rattle.hdlc.specs.declared.chunks.Chunk.{Chunk}
@@ -28,11 +28,11 @@ pub record StuffedByte (free byte : ℕ) (c : Chunk) : Type 0 where
 
 -- the bits have room in the buffer from the writer's next bit on
 pub record WriterRoom (buffer : List ℕ) (writer : BitWriter) (bits : List Bool) : Type 0 where
-  pub held : Held writer
+  pub held : PartHeld writer
   pub within : nextBit writer + length bits ≤ 8 * length buffer
 
 -- the bits are put with the writer, and `next` is the writer behind them
 pub record WriterPut (old : List ℕ) (writer : BitWriter) (bits : List Bool) (new : List ℕ) (next : BitWriter) : Type 0 where
-  pub held : Held next
+  pub held : PartHeld next
   pub behind : nextBit next ≡ nextBit writer + length bits
   pub buffer : withHeld new next ≡ sets (withHeld old writer) (nextBit writer) bits

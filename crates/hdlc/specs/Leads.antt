@@ -5,8 +5,8 @@ use mathlib.Core.Path.{_≡_}
 
 -- the n lowest bytes of a number, the first one lowest, and behind them these
 unfoldable pub led : ℕ → ℕ → List ℕ → List ℕ
-led lead zero bytes = bytes
-led lead (suc n) bytes = lead % 256 ∷ led (lead / 256) n bytes
+led number zero bytes = bytes
+led number (suc n) bytes = number % 256 ∷ led (number / 256) n bytes
 
 -- the number has the byte lowest and the others above it
 pub record Below (byte others number : ℕ) : Type 0 where

@@ -21,16 +21,16 @@ pub fn below(byte: u8, others: u64) -> u64
 }
 
 // The n lowest bytes of a number written at the pen, stuffed, the lowest first.
-fn stuff_lead(buf: &mut [u8], pen: Pen, lead: u64, n: usize) -> Pen
+fn stuff_number(buf: &mut [u8], pen: Pen, number: u64, n: usize) -> Pen
     requires { ⌜ (0 < n) × (pen .free ≤ 4) ⌝ }
-    requires { ⌜ Room (now buf) (pen .at) (stuffedBy pen (bitsOf (led lead n []))) ⌝ }
-    ensures { λ r. ⌜ Stuffed (now (buf .entry)) pen (bitsOf (led lead n [])) (now (buf .exit)) r ⌝ }
+    requires { ⌜ Room (now buf) (pen .at) (stuffedBy pen (bitsOf (led number n []))) ⌝ }
+    ensures { λ r. ⌜ Stuffed (now (buf .entry)) pen (bitsOf (led number n [])) (now (buf .exit)) r ⌝ }
 {
     let at = pen.at;
     let mut free = pen.free;
     let mut fcs = pen.fcs;
     let mut writer = BitWriter::new(buf, at);
-    let mut rest = lead;
+    let mut rest = number;
     let mut i: usize = 0;
     while i < n {
         let byte = (rest % 256) as u8;
@@ -48,12 +48,12 @@ fn stuff_lead(buf: &mut [u8], pen: Pen, lead: u64, n: usize) -> Pen
 }
 
 // The frame of a packet whose first n bytes are the lowest of a number, and whose others are lent, written at bit `at`, and the flag behind it.
-pub fn write_led(buf: &mut [u8], at: usize, lead: u64, n: usize, bytes: &[u8]) -> usize
+pub fn write_led(buf: &mut [u8], at: usize, number: u64, n: usize, bytes: &[u8]) -> usize
     requires { ⌜ 0 < n ⌝ }
-    requires { ⌜ Room (now buf) at (frame (led lead n (now bytes)) ++ flag) ⌝ }
-    ensures { λ r. ⌜ Written (now (buf .entry)) at (frame (led lead n (now (bytes .entry))) ++ flag) (now (buf .exit)) r ⌝ }
+    requires { ⌜ Room (now buf) at (frame (led number n (now bytes)) ++ flag) ⌝ }
+    ensures { λ r. ⌜ Written (now (buf .entry)) at (frame (led number n (now (bytes .entry))) ++ flag) (now (buf .exit)) r ⌝ }
 {
-    let pen = stuff_lead(buf, Pen::new(at), lead, n);
+    let pen = stuff_number(buf, Pen::new(at), number, n);
     let end = stuff_bytes(buf, pen, bytes);
     end_frame(buf, end)
 }

@@ -21,6 +21,7 @@ use Rattle.parsing.specs.Packets.{address, link, lead, circuitIn, code, informa
 use Rattle.parsing.proofs.PacketParts.{malformed-lead}
 use Rattle.notices.specs.declared.Slot.{Slot}
 use Rattle.notices.specs.declared.Fate.{Fate}
+use Rattle.notices.specs.declared.Notice.{Notice}
 use Rattle.notices.specs.declared.Notice.the-variants.{Malformed, System, Elsewhere}
 use Rattle.notices.specs.declared.Notice.the-variants.{Circuit as CircuitNotice}
 use Rattle.notices.specs.declared.Hearing.{Hearing}
@@ -42,10 +43,13 @@ module _ (slots : List Slot) (p : List ℕ) where
   heardAt-told c fate next loss l ef en eo el = rw (en, ef, eo, el)
 
   -- a system packet
-  pub systemHeard-told : (v : List ℕ) (e c : ℕ) → v ≡ information p → e ≡ enable p → c ≡ code p
-      → record { slots = slots; notice = System e c (length v); first = false } ≡ systemHeard slots p
+  pub system-told : (v : List ℕ) (e c : ℕ) → v ≡ information p → e ≡ enable p → c ≡ code p → System e c (length v) ≡ systemHeard slots p .notice
   unfolding systemHeard
-  systemHeard-told v e c ev ee ec = rw (ee, ec, ev)
+  system-told v e c ev ee ec = rw (ee, ec, ev)
+
+  pub systemHeard-told : (n : Notice) → n ≡ systemHeard slots p .notice → record { slots = slots; notice = n; first = false } ≡ systemHeard slots p
+  unfolding systemHeard
+  systemHeard-told n e = rw e
 
   -- any packet, test by test
   module _ (cs : Circuits) (b : Bool) (eb : b ≡ malformed p) where

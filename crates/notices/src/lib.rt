@@ -2,8 +2,10 @@
 ghost use mathlib.Core.Path.{_≡_};
 ghost use Prim.Native.Nat.{_≤_, _<_};
 ghost use mathlib.Core.Bool.{true};
+ghost use mathlib.Core.List.{List};
 ghost use lib.ListN.{length, take};
 ghost use Rattle.parsing.specs.Packets.{lead};
+ghost use Rattle.notices.specs.declared.Slot.{Slot};
 ghost use Rattle.notices.specs.Slots.{slotAt, slotInRange, slotsInRange};
 ghost use Rattle.notices.specs.Heard.{heardAt, systemHeard, heard};
 
@@ -72,19 +74,28 @@ fn hear_circuit(slots: [Slot; 4], circuit: usize, p: &[u8]) -> Hearing
     }
 }
 
+// The notice of a system packet.
+pub fn system_notice(p: &[u8]) -> Notice
+    requires { ⌜ (2 ≤ length (now p)) × (lead (now p) < length (now p)) ⌝ }
+    ensures { λ r. ⌜ ((slots : List Slot) → r ≡ systemHeard slots (now (p .entry)) .notice) ⌝ }
+{
+    let information = packets::information_of(p);
+    Notice::System {
+        enable: packets::enable_of(p),
+        code: packets::code_of(p),
+        length: information.len(),
+    }
+}
+
 // A system packet is heard.
 fn hear_system(slots: [Slot; 4], p: &[u8]) -> Hearing
     requires { ⌜ (2 ≤ length (now p)) × (lead (now p) < length (now p)) ⌝ }
     ensures { λ r. ⌜ r ≡ systemHeard slots (now (p .entry)) ⌝ }
 {
-    let information = packets::information_of(p);
+    let notice = system_notice(p);
     Hearing {
         slots,
-        notice: Notice::System {
-            enable: packets::enable_of(p),
-            code: packets::code_of(p),
-            length: information.len(),
-        },
+        notice,
         first: false,
     }
 }

@@ -90,7 +90,7 @@ impl Receiver {
         ensures { λ r. ⌜ ReadCalled self (now (store .entry)) (now (bytes .entry)) from to (now (store .exit)) r ⌝ }
     {
         let framing = self.framing;
-        let scan = framing.scan_known(true, bytes, from, to);
+        let scan = scanning::scan_known(framing, true, bytes, from, to);
         let bits = scan.at - from;
         let receiver = self.with_framing(scan.framing);
         let check = scan.check;

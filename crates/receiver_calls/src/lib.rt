@@ -23,6 +23,7 @@ use notices::Notice;
 use notices::fates;
 use notices::slots;
 use notices::stores;
+use notices::system_notice;
 use packet::Found;
 use parsing::packets;
 use receiver::Receiver;
@@ -110,12 +111,7 @@ fn hear_system(store: &mut [u8], p: &[u8]) -> Notice
     ensures { λ r. ⌜ ((ts : List Slot) → (r ≡ systemHeard ts (now (p .entry)) .notice) × (now (store .exit) ≡ storeAfterNotice r ts (now (p .entry)) (now (store .entry)))) ⌝ }
 {
     stores::write_system(store, p);
-    let information = packets::information_of(p);
-    Notice::System {
-        enable: packets::enable_of(p),
-        code: packets::code_of(p),
-        length: information.len(),
-    }
+    system_notice(p)
 }
 
 // A packet that passed is heard by the receiver whose record is in the bytes.
@@ -158,7 +154,7 @@ pub fn read(
     if number != 0 {
         return number as u32;
     }
-    let scan = framing_in(record, 37).scan_known(true, bits, from, to);
+    let scan = scanning::scan_known(framing_in(record, 37), true, bits, from, to);
     let after = scan.framing;
     let check = scan.check;
     let read = scan.at - from;

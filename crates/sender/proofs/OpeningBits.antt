@@ -18,8 +18,8 @@ use Rattle.sender.specs.Blocks.{framesBits, flaggedFrames, System, syste
 use Rattle.sender.specs.BlockCalls.{Allowed}
 
 -- a system packet is three bytes of a number, and the information
-pub led-system : (enable code : ℕ) (information : List ℕ) {lead control descriptor : ℕ} → Below 0xff control lead →
-    Below (192 + enable) descriptor control → Below (16 * code + length information) 0 descriptor → led lead 3 information ≡ systemPacket enable code information
+pub led-system : (enable code : ℕ) (information : List ℕ) {number control descriptor : ℕ} → Below 0xff control number →
+    Below (192 + enable) descriptor control → Below (16 * code + length information) 0 descriptor → led number 3 information ≡ systemPacket enable code information
 unfolding systemPacket led
 led-system enable code information p q r = led-three p q r 0 information
 

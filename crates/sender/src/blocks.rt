@@ -32,8 +32,8 @@ fn put_system(buf: &mut [u8], at: usize, enable: u8, code: u8, information: &[u8
 {
     let n = information.len() as u8;
     let descriptor = below(16 * code + n, 0);
-    let lead = below(0xff, below(192 + enable, descriptor));
-    hdlc::led::write_led(buf, at, lead, 3, information)
+    let number = below(0xff, below(192 + enable, descriptor));
+    hdlc::led::write_led(buf, at, number, 3, information)
 }
 
 // What a block begins with: a flag, and if one is wanted the system packet's frame and a flag.

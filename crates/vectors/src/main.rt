@@ -62,7 +62,7 @@ fn print_packet(bytes: [u8; 21], n: usize) {
 fn read_back(bytes: &[u8], to: usize)
     requires { ⌜ to ≤ 8 * length (now bytes) ⌝ }
 {
-    let found = Framing::fresh().scan(bytes, 0, to);
+    let found = scanning::scan(Framing::fresh(), bytes, 0, to);
     let check = found.check;
     match check {
         Check::Packet(n) => {

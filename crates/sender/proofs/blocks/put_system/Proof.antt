@@ -40,8 +40,8 @@ whole c =
 
 write-led-requires : tie.Need-write-led-requires
 write-led-requires c κs =
-    let lead = c .before in
-    (omega arith, rw (whole lead) (lead .before .before .before .before .before .pre .1))
+    let number = c .before in
+    (omega arith, rw (whole number) (number .before .before .before .before .before .pre .1))
 
 same-length : tie.Need-same-length
 same-length c = search needs

@@ -1,0 +1,4 @@
+-- The laws of `scanning`.
+pub mod Stretches
+pub mod WordsRead
+pub mod Turns

@@ -1,0 +1,2 @@
+-- The definitions of `scanning`: what is read at once.
+pub mod Ahead
