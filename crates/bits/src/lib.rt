@@ -94,7 +94,7 @@ fn put_bytes(s: &mut [u8], from: usize, n: usize, byte: u8)
     }
 }
 
-// The same for a run of many bits: those before its first whole byte, the whole bytes, and those behind them.
+// The n bits from bit `at` on become `bit`, as many as they are: those before the first whole byte, the whole bytes, and those behind them.
 pub fn put_long_run(s: &mut [u8], at: usize, n: usize, bit: bool)
     requires { ⌜ (at + n ≤ 8 * length (now s)) × (at + n < 2 ^ 64) ⌝ }
     ensures { λ r. ⌜ bitsOf (now (s .exit)) ≡ sets (bitsOf (now (s .entry))) at (replicate n bit) ⌝ }

@@ -1,6 +1,6 @@
 -- Every frame passes: once a flag is read, in whatever framing, the frame of a packet of 2 to 19 bytes and the flag behind it close
 -- exactly one body, with the last bit, and it gives that packet.
-use Prim.Native.Nat.{ℕ, _+_, _-_, _*_, _%_, _≤_, _<_}
+use Prim.Native.Nat.{ℕ, _+_, _*_, _%_, _≤_, _<_}
 use mathlib.Core.Bool.{Bool, true, false}
 use mathlib.Core.List.{List, [], _∷_, _++_}
 use mathlib.Core.Option.{some}

@@ -1,30 +1,20 @@
 -- One turn of each loop, on plain lists: what reading the bit at an index makes of what is still to be read.
 use Prim.Native.Nat.{ℕ, zero, suc, _+_, _*_, _/_, _%_, _^_, _≤_, _<_, min}
-use mathlib.Core.Bool.{Bool, true, false, cond, not, _&&_}
-use mathlib.Core.List.{List, [], _∷_, _++_}
+use mathlib.Core.Bool.{Bool, true, false, not, _&&_}
+use mathlib.Core.List.{List, _∷_, _++_}
 use mathlib.Core.Path.{_≡_, refl}
-use mathlib.Core.Logic.{⊎-elim}
 use native.Mathlib.Nat.{div-one, pow-suc}
 use native.Mathlib.Numerals.{add-one}
 use native.Mathlib.Omega.{arith}
 use lib.ListN.{length, take, drop, getD, length-take, drop-of-length-le}
-use lib.Seq.{slice, slice-empty, slice-cons, drop-cons, drop-drop, drop-append-le, getD-take}
+use lib.Seq.{drop-cons, drop-drop, drop-append-le, getD-take}
 use lib.Dec.{eqb}
 use lib.Pow.{shr-shr}
 use borrow.Author.Tests.{eqb-true, eqb-false, eq-eqb, ne-eqb}
-use types.Run.{OneOf}
-use denote.Enum.Declared.{tagOf}
 use Rattle.bits.specs.Bits.{odd, lowBits, byteBits, bitsOf}
 use Rattle.bits.proofs.Bits.{length-lowBits, length-bitsOf, drop-bitsOf}
 use Rattle.hdlc.specs.Stuffing.{endOnes}
-use Rattle.framing.specs.declared.Framing.{Framing}
-use Rattle.framing.specs.declared.Check.{Check}
-use Rattle.framing.specs.declared.Check.the-variants.{Packet, Spoilt, Nothing}
-use Rattle.framing.specs.declared.Scan.{Scan}
-use Rattle.framing.proofs.Check.{the-type}
-use Rattle.framing.specs.Machine.{step, closes, check}
 use Rattle.framing.specs.Range.{allZero}
-use Rattle.framing.specs.Scanning.{ended, stopped, scan}
 
 -- 21 bytes are 168 bits
 pub length-bits-21 : (bytes : List ℕ) → length bytes ≡ 21 → length (bitsOf bytes) ≡ 168

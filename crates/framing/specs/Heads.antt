@@ -1,15 +1,12 @@
--- The numbers of a framing apart from its bits, as the code has them while it changes the bits in place, and how far bits are read at once.
-use Prim.Native.Nat.{ℕ, _≤_}
+-- The numbers of a framing apart from its bits, as the code has them while it changes the bits in place.
+use Prim.Native.Nat.{ℕ}
 use mathlib.Core.Bool.{Bool}
 use mathlib.Core.List.{List}
-use mathlib.Core.Path.{_≡_}
-use lib.ListN.{length, replicate}
-use lib.Seq.{sets, slice}
+use lib.ListN.{length}
+use lib.Seq.{sets}
 use Rattle.bits.specs.Bits.{bitsOf, fillBytes}
 use Rattle.framing.specs.declared.Framing.{Framing}
 use Rattle.framing.specs.declared.Head.{Head}
-use Rattle.framing.specs.Range.{LeftBy}
-use Rattle.framing.specs.Scanning.{scan}
 
 -- the framing of a head and bits
 abbrev pub framingOf : Head → List ℕ → Framing

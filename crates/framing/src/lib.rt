@@ -5,7 +5,6 @@ ghost use mathlib.Core.List.{List, _++_};
 ghost use Prim.Native.Nat.{ℕ, _+_, _*_, _^_, _≤_, _<_};
 ghost use lib.Dec.{eqb};
 ghost use lib.ListN.{length, take, drop, replicate};
-ghost use lib.Seq.{slice};
 ghost use Rattle.bits.specs.Bits.{bitsOf};
 ghost use Rattle.hdlc.specs.Stuffing.{endOnes};
 ghost use Rattle.framing.specs.Heads.{overwritten, framingOf};

@@ -1,5 +1,5 @@
 -- `hdlc::chunks::free_behind` meets its contract: the table says it at each byte.
-use Prim.Native.Nat.{_-_, _≤_}
+use Prim.Native.Nat.{_≤_}
 use native.Mathlib.Omega.{arith}
 use mathlib.Core.Path.{sym}
 use borrow.Author.Needs.{needs}

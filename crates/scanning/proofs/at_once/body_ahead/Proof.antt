@@ -106,8 +106,12 @@ word-at-requires c κs = omega (arith, c .before .before .goes-on .ensures (c .b
 until-five-requires : tie.Need-until-five-requires Inv-loop μ-loop
 until-five-requires c κs = (c .word-at .ensures .1, omega (arith, so-far (c .before .before .before .before) .few, c .before .if2 .left))
 
+-- a piece is not longer than its word
+piece-most : (c : tie.After-until-five Inv-loop μ-loop) → c .until-five .result ≤ 56
+piece-most c = rw (c .until-five .ensures) (until-word _ _)
+
 lowest-requires : tie.Need-lowest-requires Inv-loop μ-loop
-lowest-requires c κs = omega (arith, c .before .until-five .ensures, until-word (c .before .before .word-at .result) (c .before .before .before .before .before .before .loop .ones))
+lowest-requires c κs = piece-most (c .before)
 
 gather-requires-2 : tie.Need-gather-requires-2 Inv-loop μ-loop
 gather-requires-2 c κs =
@@ -115,27 +119,25 @@ gather-requires-2 c κs =
       r .part,
       r .gathered .small,
       omega (arith, to-fits (c .before .before .before .before .before .before .before .before .before .before .before .before .before .before .before .before .before) .fits, r .gathered .all, r .most, r .read .most),
-      omega (arith, c .before .before .until-five .ensures, until-word (c .before .before .before .word-at .result) (c .before .before .before .before .before .before .before .loop .ones)),
+      piece-most (c .before .before),
       rw (c .lowest .ensures) (mod-lt (c .before .before .before .word-at .result) (pow-pos (c .before .before .until-five .result))),
     )
 
 phase-behind-requires : tie.Need-phase-behind-requires Inv-loop μ-loop
 phase-behind-requires c κs =
-    (omega (arith, c .before .before .before .until-five .ensures, until-word (c .before .before .before .before .word-at .result) (c .before .before .before .before .before .before .before .before .loop .ones)), omega (arith, so-far (c .before .before .before .before .before .before .before .before) .few, c .before .before .before .before .before .if2 .left))
+    (piece-most (c .before .before .before), omega (arith, so-far (c .before .before .before .before .before .before .before .before) .few, c .before .before .before .before .before .if2 .left))
 
 ones-behind-requires : tie.Need-ones-behind-requires Inv-loop μ-loop
 ones-behind-requires c κs = (c .before .before .before .before .before .word-at .ensures .1, omega (arith, so-far (c .before .before .before .before .before .before .before .before .before) .few, c .before .before .before .before .before .before .if2 .left), c .before .before .before .before .until-five .ensures)
 
 add-at-2 : tie.Need-add-at-2 Inv-loop μ-loop
 add-at-2 c =
-    let most : c .before .before .before .before .before .until-five .result ≤ 56 = rw (c .before .before .before .before .before .until-five .ensures) (until-word (c .before .before .before .before .before .before .word-at .result) (c .before .before .before .before .before .before .before .before .before .before .loop .ones)) in
-    record { fits = omega (arith, to-fits (c .before .before .before .before .before .before .before .before .before .before .before .before .before .before .before .before .before .before .before .before) .fits, most, c .before .before .before .before .before .before .before .before .before .goes-on .ensures (c .before .before .before .before .before .before .before .before .if1 .taken) .0) }
+    record { fits = omega (arith, to-fits (c .before .before .before .before .before .before .before .before .before .before .before .before .before .before .before .before .before .before .before .before) .fits, piece-most (c .before .before .before .before .before), c .before .before .before .before .before .before .before .before .before .goes-on .ensures (c .before .before .before .before .before .before .before .before .if1 .taken) .0) }
 
 loop-less-2 : tie.Need-loop-less-2 Inv-loop μ-loop
 loop-less-2 c =
-    let most : c .before .before .before .before .before .until-five .result ≤ 56 = rw (c .before .before .before .before .before .until-five .ensures) (until-word (c .before .before .before .before .before .before .word-at .result) (c .before .before .before .before .before .before .before .before .before .before .loop .ones)) in
     let some : 0 < c .before .before .before .before .before .until-five .result = rw (c .before .before .before .before .before .until-five .ensures) (until-least (c .before .before .before .before .before .before .word-at .result) (c .before .before .before .before .before .before .before .before .before .before .loop .ones)) in
-    omega (arith, most, some, c .before .before .before .before .before .before .before .before .before .goes-on .ensures (c .before .before .before .before .before .before .before .before .if1 .taken) .0)
+    omega (arith, piece-most (c .before .before .before .before .before), some, c .before .before .before .before .before .before .before .before .before .goes-on .ensures (c .before .before .before .before .before .before .before .before .if1 .taken) .0)
 
 loop-again-2 : tie.Need-loop-again-2 Inv-loop μ-loop
 loop-again-2 c =
