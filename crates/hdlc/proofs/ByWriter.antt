@@ -130,6 +130,11 @@ module _ {old : List ℕ} {start : BitWriter} {first preset : ℕ} {done : List 
       let upto = stuffed-first (bitsOf (take j bytes)) (bitsOf (drop j bytes)) first (rw (with-rest bytes j) at r) in
       stuffed-next done a first (u .put) (u .ones) (rw e at upto) (u .long)
 
+  -- the same, under other names
+  pub Underway-same : {buffer′ : List ℕ} {w′ : BitWriter} {free′ fcs′ : ℕ} {done′ : List Bool} → done′ ≡ done → buffer′ ≡ buffer → free′ ≡ free → fcs′ ≡ fcs → w′ ≡ w →
+      Underway old start first preset done′ buffer′ w′ free′ fcs′
+  Underway-same ed eb ef er ew = rw (ed, eb, ef, er, ew) u
+
   pub Underway-step : {more : List Bool} {next : List ℕ} {v : BitWriter} {free′ fcs′ : ℕ} (a : List Bool) → more ≡ done ++ a →
       WriterPut buffer w (stuffFrom a free) next v → length next ≡ length buffer → free′ ≡ freeAfter a free → fcs′ ≡ fcsRun fcs a →
       Underway old start first preset more next v free′ fcs′

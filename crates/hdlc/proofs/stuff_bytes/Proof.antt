@@ -4,7 +4,7 @@ use Prim.Native.Nat.{_+_, _-_, _≤_}
 use native.Mathlib.Omega.{arith}
 use mathlib.Core.List.{_++_}
 use mathlib.Core.Logic.{⊎-elim}
-use mathlib.Core.Path.{_≡_, ap, sym, _∙_}
+use mathlib.Core.Path.{_≡_, refl, ap, sym, _∙_}
 use borrow.Author.Needs.{needs}
 use denote.Ref.{now}
 use lib.ListN.{length, take, getD}
@@ -28,6 +28,7 @@ use Rattle.hdlc.proofs.ByWriter.{
   Underway,
   Underway-start,
   Underway-room,
+  Underway-same,
   Underway-step,
 }
 use Rattle.hdlc.proofs.stuff_bytes.Statement.{statement}
@@ -164,9 +165,10 @@ whole c =
     ⊎-elim
     (λ w.
     let all = take-all (i + 1) bytes (omega (arith, c .before .loop-test .left)) in
-    rw (w .8, w .9, w .10, w .11)
-    (Underway-step u (byteBits (getD bytes i 0)) (ap bitsOf (sym all) ∙ one-byte-more bytes i (w .0 .taken)) (w .3 .ensures) (w .3 .kept .0) (w .6 .ensures) (w .7 .ensures)))
-    (λ w. rw (w .1, w .2, w .3, w .4) (rw (take-all i bytes (w .0 .left)) at u))
+    Underway-same
+    (Underway-step u (byteBits (getD bytes i 0)) (ap bitsOf (sym all) ∙ one-byte-more bytes i (w .0 .taken)) (w .3 .ensures) (w .3 .kept .0) (w .6 .ensures) (w .7 .ensures))
+    refl (w .8) (w .9) (w .10) (w .11))
+    (λ w. Underway-same u (ap bitsOf (sym (take-all i bytes (w .0 .left)))) (w .1) (w .2) (w .3) (w .4))
     (c .if3 .came)
 
 close-requires : tie.Need-close-requires Inv-loop μ-loop
