@@ -13,7 +13,7 @@ extern const size_t plain_sender_size, plain_receiver_size;
 
 /* The answers. On a little-endian machine their bytes are those of the library's answers; `none` is 0. */
 struct plain_block {
-    uint32_t placed, used;
+    uint32_t placed, used, zeros;
 };
 struct plain_read {
     uint8_t notice, number_or_enable, loss_or_code, fate_or_information;

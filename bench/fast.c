@@ -108,11 +108,11 @@ static void make_tables(void)
 
 /* ---- sending */
 
-/* Bits put from `to` on: `word` holds the `have` bits behind the bytes that are written. */
+/* Bits put from `to` on: `word` holds the `have` bits behind the bytes that are written. `bare` counts the bits of a block without its stuffed zeros. */
 struct quill {
     uint8_t *to;
     uint64_t word;
-    unsigned have, ones;
+    unsigned have, ones, bare;
 };
 
 static inline void add(struct quill *q, uint64_t bits, unsigned n)
@@ -212,6 +212,7 @@ static inline int put_within(struct quill *q, const uint8_t *block, size_t room,
     if (close)
         memcpy(start, spare, written);
     next.to = start + written;
+    next.bare += 8 * (unsigned)(n + 2) + 8;
     *q = next;
     return 1;
 }
@@ -248,7 +249,7 @@ static void put_ones(const struct quill *q, uint8_t *block, size_t n)
 uint32_t fast_sender_block(struct plain_sender *s, const uint8_t *store, size_t store_len, uint64_t n, uint64_t u,
                            const struct plain_system *system, uint8_t *block, size_t block_len, struct plain_block *answer)
 {
-    struct quill q = {block, FLAG, 8, 0};
+    struct quill q = {block, FLAG, 8, 0, 8};
     uint32_t refusal = block_refusal(s, store_len, n, u, system, block_len);
     if (refusal)
         return refusal;
@@ -263,6 +264,7 @@ uint32_t fast_sender_block(struct plain_sender *s, const uint8_t *store, size_t 
     }
     answer->placed = fill_fast(s, store, &q, block, (n + 7) / 8, u);
     answer->used = (uint32_t)(8 * (q.to - block) + q.have);
+    answer->zeros = answer->used - q.bare;
     put_ones(&q, block, n);
     return 0;
 }

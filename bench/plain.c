@@ -75,11 +75,12 @@ static inline uint16_t fcs_bit(uint16_t fcs, unsigned bit)
 
 /* ---- sending: bits put into a block */
 
-/* `at` is the next bit's number, and `last` holds the eight bits put last, the newest highest. Bytes from `room` on are not written. */
+/* `at` is the next bit's number, `last` holds the eight bits put last, the newest highest, and `zeros` counts those that were stuffed. Bytes from
+   `room` on are not written. */
 struct pen {
     uint8_t *block;
     size_t at, room;
-    unsigned last, ones;
+    unsigned last, ones, zeros;
     uint16_t fcs;
 };
 
@@ -105,6 +106,7 @@ static inline void put_stuffed(struct pen *p, unsigned bit)
     if (p->ones == 5) {
         put_bit(p, 0);
         p->ones = 0;
+        p->zeros++;
     }
 }
 
@@ -313,7 +315,7 @@ static uint32_t block_refusal(const struct plain_sender *s, size_t store_len, ui
 uint32_t plain_sender_block(struct plain_sender *s, const uint8_t *store, size_t store_len, uint64_t n, uint64_t u,
                             const struct plain_system *system, uint8_t *block, size_t block_len, struct plain_block *answer)
 {
-    struct pen p = {block, 0, (n + 7) / 8, 0, 0, 0};
+    struct pen p = {block, 0, (n + 7) / 8, 0, 0, 0, 0};
     uint32_t refusal = block_refusal(s, store_len, n, u, system, block_len);
     if (refusal)
         return refusal;
@@ -326,6 +328,7 @@ uint32_t plain_sender_block(struct plain_sender *s, const uint8_t *store, size_t
     }
     answer->placed = fill(s, store, &p, u);
     answer->used = (uint32_t)p.at;
+    answer->zeros = p.zeros;
     put_rest(&p, n);
     return 0;
 }

@@ -8,7 +8,8 @@
  * the static library libaes18.a for x86-64, which `rt staticlib aes18` proves and writes; docs/PROOFS.md says what is proved of them. Document 01 is
  * the specification: refusals have its numbers, and its words stand in quotation marks. The totals are those of document 02, ask 1; the serial line,
  * with refusals 16 and 17, is that of its ask 3; that enable bits hold over from block to block is its ask 4; the packets still to go in a sender's
- * record are those of its ask 5. No document asks for the framing's call; what it reads is what document 01 says of flags and bodies.
+ * record are those of its ask 5, and the stuffed zeros in a block's answer those of its ask 6. No document asks for the framing's call; what it reads
+ * is what document 01 says of flags and bodies.
  *
  * What is lent. Every array is lent as a pointer and its length in bytes, for the time of the call. With length 0 any pointer will do, a null
  * pointer too, and is not followed. An array that a call writes (record, framing, totals, block, the store of an offer and of a read, the line of a
@@ -56,14 +57,14 @@ extern "C" {
 
 /*
  * Lengths in bytes of what is lent. Records, stores and answers may be longer; the bytes behind are not looked at and keep their values. Header and
- * archive have to be of one version: an archive made before a record grew takes the longer one too, lays it out as before and leaves its last bytes
- * unwritten.
+ * archive have to be of one version: an archive made before a record or an answer grew takes the longer one too, lays it out as before and leaves its
+ * last bytes unwritten.
  */
 #define AES18_SENDER_RECORD 55
 #define AES18_RECEIVER_RECORD 61
 #define AES18_SENDER_STORE 16384
 #define AES18_RECEIVER_STORE 16400
-#define AES18_BLOCK_ANSWER 8
+#define AES18_BLOCK_ANSWER 12
 #define AES18_READ_ANSWER 16
 #define AES18_FRAMING_RECORD 24
 #define AES18_FRAMING_ANSWER 16
@@ -223,8 +224,10 @@ uint32_t aes18_sender_offer(uint8_t *record, size_t record_len, uint8_t *store, 
  * not enabled wait, with enable bits 0 all of them, for as many blocks as are made, until a system packet enables them: one with AES18_ALL_ENABLED
  * enables all. Only an accepted block with a system packet changes the enable bits in force; offers and refused blocks do not. A panel may read them
  * at byte AES18_SENDER_ENABLE of the record.
- * The answer, 8 bytes, is two numbers of 4 bytes each: the frames placed, without the system packet's, and the bits used, which are those before
- * the closing ones.
+ * The answer, 12 bytes, is three numbers of 4 bytes each: the frames placed, without the system packet's; the bits used, which are those before the
+ * closing ones; and the stuffed zeros, which are those that stuffing added to the frames in the block, the system packet's and every placed copy's.
+ * Flags and closing ones have none, and a frame that does not fit is not counted. Stuffed zeros are among the bits used: where a frame's packet has b
+ * bytes, these are 8 and, for each frame, 8 * (b + 2) + its stuffed zeros + 8. A frame has at most 8 * (b + 2) / 5 of them, rounded down.
  * Refusals, in order: SHORT, RECORD, STORE, BLOCK, BUFFER, SYSTEM.
  */
 uint32_t aes18_sender_block(uint8_t *record, size_t record_len, const uint8_t *store, size_t store_len, uint64_t n, uint64_t u, uint64_t system,
@@ -234,6 +237,7 @@ uint32_t aes18_sender_block(uint8_t *record, size_t record_len, const uint8_t *s
 /* Where the numbers stand in a block's answer. */
 #define AES18_BLOCK_PLACED 0
 #define AES18_BLOCK_USED 4
+#define AES18_BLOCK_ZEROS 8
 
 /*
  * Where a sender's record has what a panel reads: the enable bits in force, and for each circuit number the packets still to go. Those of circuit 0

@@ -25,7 +25,7 @@ def made(s, *call):
     block = s.block(*call)
     if isinstance(block, int):
         return "refused %d" % block
-    return "placed %d used %d %s %s" % (block.placed, block.used, left(s), block.data.hex())
+    return "placed %d used %d zeros %d %s %s" % (block.placed, block.used, block.zeros, left(s), block.data.hex())
 
 
 def run():

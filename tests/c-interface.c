@@ -387,7 +387,7 @@ static void test_block_refusals(void)
 /* A block of nothing: without a system packet, what one would have is not looked at. The last byte has spare bits, and two bytes stand behind it. */
 static void test_empty_block(void)
 {
-    static const uint8_t empty[AES18_BLOCK_ANSWER] = {0, 0, 0, 0, 8, 0, 0, 0};
+    static const uint8_t empty[AES18_BLOCK_ANSWER] = {0, 0, 0, 0, 8, 0, 0, 0, 0, 0, 0, 0};
     static struct call c;
 
     prepare_listed(&c, &list_sender, &block, two_circuits, sizeof two_circuits);
@@ -1178,6 +1178,7 @@ static void test_none_enabled(void)
         CALL(&c, &block, AES18_ACCEPTED);
         IS(number(c.bytes[ANSWER] + AES18_BLOCK_PLACED, 4), 0);
         IS(number(c.bytes[ANSWER] + AES18_BLOCK_USED, 4), 8);
+        IS(number(c.bytes[ANSWER] + AES18_BLOCK_ZEROS, 4), 0);
         ALL(c.bytes[BLOCK] + 1, 0xFF, 63);
         EQUAL(c.bytes[RECORD], before, sizeof before);
     }
@@ -1490,6 +1491,200 @@ static void test_sender_lengths(void)
     c.length[RECORD] = 55;
     CALL(&c, &offer, AES18_REFUSED_PENDING);
     CALL(&c, &block, AES18_ACCEPTED);
+}
+
+/*
+ * Blocks of 27,000 bits of which u may be used, with their numbers, made from document 01 by other code. One message is offered, at circuit 0 with
+ * priority 2: so many bytes, each `byte`. Where a system packet is wanted its block code is 8, and its information so many bytes FF, in base 16.
+ */
+static const struct {
+    uint8_t byte;
+    size_t length;
+    uint64_t repetition, u, system, enable;
+    size_t info;
+    uint64_t placed, used, zeros;
+} stuffed[] = {
+    {0xFF, 0, 0, 27000, 0, 0, 0, 1, 56, 0},             /* no five ones in a row */
+    {0x55, 5, 0, 27000, 0, 0, 0, 1, 96, 0},
+    {0xCC, 4, 0, 27000, 0, 0, 0, 1, 91, 3},             /* in the FCS alone */
+    {0x5D, 4, 2, 27000, 0, 0, 0, 3, 251, 3},            /* behind five ones that end the frame */
+    {0xFF, 5, 0, 27000, 0, 0, 0, 1, 104, 8},            /* one copy, and six */
+    {0xFF, 5, 5, 27000, 0, 0, 0, 6, 584, 48},
+    {0xFF, 15, 1, 394, 0, 0, 0, 2, 394, 50},            /* a second copy that fits, and one that does not */
+    {0xFF, 15, 1, 393, 0, 0, 0, 1, 201, 25},
+    {0xFF, 100, 1, 27000, 0, 0, 0, 14, 2512, 312},      /* numbers of two bytes */
+    {0xFF, 4094, 1, 27000, 1, 15, 0, 139, 26899, 3491},
+    {0xFF, 5, 0, 27000, 1, 15, 15, 1, 299, 35},         /* a system packet, and alone */
+    {0xFF, 5, 0, 27000, 1, 0, 15, 0, 202, 26},
+    {0xFF, 5, 0, 27000, 1, 0, 0, 0, 57, 1},
+};
+
+/* Offers the message of such a block and makes it. */
+static void make_stuffed(struct call *c, size_t i)
+{
+    prepare_listed(c, &list_sender, &block, two_circuits, sizeof two_circuits);
+    c->circuit = 0;
+    c->priority = 2;
+    c->repetition = stuffed[i].repetition;
+    memset(c->bytes[INPUT], stuffed[i].byte, stuffed[i].length);
+    c->length[INPUT] = stuffed[i].length;
+    CALL(c, &offer, AES18_ACCEPTED);
+    c->n = AES18_MOST_BLOCK_BITS;
+    c->u = stuffed[i].u;
+    c->system = stuffed[i].system;
+    c->enable = stuffed[i].enable;
+    c->code = AES18_HIGHEST_CODE;
+    memset(c->bytes[INPUT], 0xFF, stuffed[i].info);
+    c->length[INPUT] = stuffed[i].info;
+    c->length[BLOCK] = AES18_LONGEST_BLOCK;
+    CALL(c, &block, AES18_ACCEPTED);
+}
+
+/*
+ * The frames of a block have the stuffed zeros of its answer, by the zeros that unstuffing drops: in the bits used, six ones and a zero end a flag, and
+ * a zero behind five ones is dropped. What is kept of a frame is whole bytes, of which the zeros are one fifth at most.
+ */
+static void is_unstuffed(int line, const struct call *c)
+{
+    const uint8_t *bits = c->bytes[BLOCK], *answer = c->bytes[ANSWER];
+    uint64_t used = number(answer + AES18_BLOCK_USED, 4), flag = 8, ones = 0, zeros = 0, sum = 0, at;
+
+    is(line, bits[0], 0x7E);
+    for (at = 8; at < used; at++) {
+        if (bits[at / 8] >> at % 8 & 1) {
+            ones++;
+            continue;
+        }
+        zeros += ones == 5;
+        if (ones == 6) {
+            uint64_t kept = at + 1 - 8 - flag - zeros;
+
+            is(line, kept % 8, 0);
+            is(line, zeros <= kept / 5, 1);
+            sum += zeros;
+            flag = at + 1;
+            zeros = 0;
+        }
+        ones = 0;
+    }
+    is(line, flag, used);
+    is(line, number(answer + AES18_BLOCK_ZEROS, 4), sum);
+}
+
+/*
+ * The bits used by a block are 8 and, for each of its frames, those of packet and FCS, its stuffed zeros and 8. How long the packets are, a framing
+ * that reads the block says.
+ */
+static void is_used(int line, const struct call *c)
+{
+    uint8_t framing[AES18_FRAMING_RECORD] = {0}, packet[AES18_LONGEST_PACKET], answer[AES18_FRAMING_ANSWER];
+    uint64_t from = 0, packets = 0, used = 8 + number(c->bytes[ANSWER] + AES18_BLOCK_ZEROS, 4);
+
+    do {
+        is(line, aes18_framing_read(framing, sizeof framing, c->bytes[BLOCK], c->length[BLOCK], from, c->n, packet, sizeof packet, answer,
+                                    sizeof answer), AES18_ACCEPTED);
+        from += number(answer + AES18_FRAMING_BITS, 8);
+        if (answer[AES18_FRAMING_STOP] == AES18_FRAMING_PACKET) {
+            used += 8 * (answer[AES18_FRAMING_LENGTH] + 2u) + 8;
+            packets++;
+        }
+    } while (answer[AES18_FRAMING_STOP] != AES18_FRAMING_END);
+    is(line, number(c->bytes[ANSWER] + AES18_BLOCK_PLACED, 4) + (c->system != 0), packets);
+    is(line, number(c->bytes[ANSWER] + AES18_BLOCK_USED, 4), used);
+}
+
+/* The stuffed zeros of blocks that are known. */
+static void test_stuffed(void)
+{
+    static struct call c;
+    size_t i;
+
+    for (i = 0; i < COUNT(stuffed); i++) {
+        make_stuffed(&c, i);
+        IS(number(c.bytes[ANSWER] + AES18_BLOCK_PLACED, 4), stuffed[i].placed);
+        IS(number(c.bytes[ANSWER] + AES18_BLOCK_USED, 4), stuffed[i].used);
+        IS(number(c.bytes[ANSWER] + AES18_BLOCK_ZEROS, 4), stuffed[i].zeros);
+        is_unstuffed(__LINE__, &c);
+        is_used(__LINE__, &c);
+    }
+}
+
+/* Answers of all lengths below theirs, that of an earlier version among them, and longer ones, whose bytes behind keep their values. */
+static void test_answer_lengths(void)
+{
+    static struct call c;
+    size_t i;
+
+    prepare_left(&c, 1);
+    c.repetition = AES18_MOST_REPETITIONS;
+    c.length[INPUT] = 15;
+    memset(c.bytes[INPUT], 0xFF, 15);
+    CALL(&c, &offer, AES18_ACCEPTED);
+    for (i = 0; i < 12; i++) {
+        c.length[ANSWER] = i;
+        CALL(&c, &block, AES18_REFUSED_SHORT);
+    }
+    for (i = 12; i <= 15; i++) {
+        c.length[ANSWER] = i;
+        memset(c.bytes[ANSWER], OLD, i);
+        CALL(&c, &block, AES18_ACCEPTED);
+        IS(number(c.bytes[ANSWER] + AES18_BLOCK_ZEROS, 4), 25);
+        ALL(c.bytes[ANSWER] + 12, OLD, i - 12);
+    }
+}
+
+/* A number below another, of a row that is the same in every run. */
+static uint32_t any_below(uint32_t limit)
+{
+    static uint32_t state = 6;
+
+    state = state * 1664525u + 1013904223u;
+    return (state >> 8) % limit;
+}
+
+/* A message of up to 79 bytes, most of them with many ones. */
+static void put_any_message(struct call *c)
+{
+    static const uint8_t ones[] = {0xFF, 0x7E, 0xF8, 0x1F};
+    size_t i;
+
+    c->length[INPUT] = any_below(80);
+    for (i = 0; i < c->length[INPUT]; i++)
+        c->bytes[INPUT][i] = any_below(4) == 0 ? (uint8_t)any_below(256) : ones[any_below(COUNT(ones))];
+}
+
+/* Offers a message at each of four circuits; refused where one is pending. */
+static void offer_any(struct call *c)
+{
+    for (c->circuit = 0; c->circuit < AES18_MOST_CIRCUITS; c->circuit++) {
+        c->priority = any_below(AES18_HIGHEST_PRIORITY + 1);
+        c->repetition = any_below(AES18_MOST_REPETITIONS + 1);
+        put_any_message(c);
+        CALL(c, &offer, left(c, c->circuit) > 0 ? AES18_REFUSED_PENDING : AES18_ACCEPTED);
+    }
+}
+
+/* The stuffed zeros of blocks of any length, with and without system packets, after any offers. */
+static void test_any_stuffed(void)
+{
+    static struct call c;
+    int i;
+
+    prepare_listed(&c, &list_sender, &block, four_circuits, sizeof four_circuits);
+    for (i = 0; i < 400; i++) {
+        offer_any(&c);
+        c.n = AES18_FEWEST_BLOCK_BITS + any_below(2000);
+        c.u = AES18_FEWEST_BLOCK_BITS + any_below((uint32_t)c.n - AES18_FEWEST_BLOCK_BITS + 1);
+        c.length[BLOCK] = (size_t)((c.n + 7) / 8);
+        c.system = any_below(3) == 0;
+        c.enable = any_below(AES18_ALL_ENABLED + 1);
+        c.code = any_below(AES18_HIGHEST_CODE + 1);
+        c.length[INPUT] = any_below(AES18_LONGEST_INFORMATION + 1);
+        memset(c.bytes[INPUT], 0xFF, c.length[INPUT]);
+        CALL(&c, &block, AES18_ACCEPTED);
+        is_unstuffed(__LINE__, &c);
+        is_used(__LINE__, &c);
+    }
 }
 
 /* The worst case of a packet's frame. */
@@ -1890,6 +2085,9 @@ static void test_all(uint8_t *place)
     test_left_copies(1);
     test_left_copies(AES18_MOST_REPETITIONS);
     test_sender_lengths();
+    test_stuffed();
+    test_answer_lengths();
+    test_any_stuffed();
     test_line_frames();
     test_line_write_refusals();
     test_line_cut(0);

@@ -1,5 +1,5 @@
-"""Frames and blocks made from document 01, with the enable bits and the packets still to go of 02, asks 4 and 5, for the tests beside this file.
-Nothing of the proved crates is used here.
+"""Frames and blocks made from document 01, with the enable bits, the packets still to go and the stuffed zeros of 02, asks 4 to 6, for the tests
+beside this file. Nothing of the proved crates is used here.
 """
 import collections
 
@@ -20,16 +20,27 @@ def fcs(data):
     return 0xFFFF - register
 
 
-def frame(packet):
+def unstuffed(packet):
+    """The bits of a packet and its FCS."""
     check = fcs(packet)
+    return bits_of(bytes(packet) + bytes([check % 256, check // 256]))
+
+
+def frame(packet):
     out, ones = [], 0
-    for bit in bits_of(bytes(packet) + bytes([check % 256, check // 256])):
+    for bit in unstuffed(packet):
         out.append(bit)
         ones = ones + 1 if bit else 0
         if ones == 5:
             out.append(0)
             ones = 0
     return out
+
+
+def zeros_in(packet):
+    """How many zeros stuffing adds to a packet's frame: one for every five ones of each run."""
+    runs = "".join(map(str, unstuffed(packet))).split("0")
+    return sum(len(run) // 5 for run in runs)
 
 
 def packets_of(message):
@@ -39,9 +50,9 @@ def packets_of(message):
     return [whole[i:i + 16] for i in range(0, len(whole), 16)]
 
 
-# A block's frames placed, bits used and bytes; and its frames, each with its circuit (None for the system's), the packet's number there, and the
-# bits from its opening flag to behind its closing one.
-Block = collections.namedtuple("Block", "placed used data frames")
+# A block's frames placed, bits used, stuffed zeros and bytes; and its frames, each with its circuit (None for the system's), the packet's number
+# there, and the bits from its opening flag to behind its closing one.
+Block = collections.namedtuple("Block", "placed used zeros data frames")
 Frame = collections.namedtuple("Frame", "circuit packet start end")
 
 
@@ -98,11 +109,13 @@ class Sender:
             return 12
         if system and (system[0] > 15 or system[1] > 8 or len(system[2]) > 15):
             return 13
-        bits, frames = list(FLAG), []
+        bits, frames, zeros = list(FLAG), [], 0
         if system:
             self.enable, code, information = system
-            bits += frame(bytes([0xFF, 0xC0 | self.enable, code << 4 | len(information)]) + information) + FLAG
+            packet = bytes([0xFF, 0xC0 | self.enable, code << 4 | len(information)]) + information
+            bits += frame(packet) + FLAG
             frames.append(Frame(None, 0, 0, len(bits)))
+            zeros = zeros_in(packet)
         placed = 0
         while True:
             c = self.pick()
@@ -116,10 +129,11 @@ class Sender:
             self.queues[c].pop(0)
             self.last = c
             bits += more
+            zeros += zeros_in(packet)
             placed += 1
         used = len(bits)
         bits += [1] * (n - used)
         bits += [0] * (-n % 8)
         data = [sum(bit << k for k, bit in enumerate(bits[i:i + 8])) for i in range(0, len(bits), 8)]
         data += [0xAA] * (room - len(data))
-        return Block(placed, used, bytes(data), frames)
+        return Block(placed, used, zeros, bytes(data), frames)

@@ -51,7 +51,7 @@ def send(out):
         block = s.block(N, U, N // 8, SYSTEM.get(b))
         frames += [f._replace(start=f.start + len(joined), end=f.end + len(joined)) for f in block.frames]
         joined += bits_of(block.data)
-        out.append("  block %d: %d frames in %d bits, left %d %d %d %d" % (b, block.placed, block.used, *s.left()))
+        out.append("  block %d: %d frames in %d bits, stuffed zeros %d, left %d %d %d %d" % (b, block.placed, block.used, block.zeros, *s.left()))
     return joined, sent, frames
 
 

@@ -98,8 +98,8 @@ pub struct Part {
 
 /// The answer of block making, as the library writes it.
 #[derive(Clone, Copy, Default, PartialEq, Eq)]
-#[repr(C, align(8))]
-pub struct BlockAnswer(pub [u8; 8]);
+#[repr(C, align(4))]
+pub struct BlockAnswer(pub [u8; 12]);
 
 /// The answer of reading, as the library writes it.
 #[derive(Clone, Copy, Default, PartialEq, Eq)]

@@ -1,6 +1,7 @@
 //! Each call made by the library and by the reference, and everything that they answer and leave compared.
 
 use crate::library::Library;
+use crate::read_back;
 use crate::tally::{Function, Tally};
 use aes18_reference::calls::{self, BlockCall, OfferCall, ReadCall};
 use std::fmt::Debug;
@@ -209,6 +210,11 @@ impl Both {
         let enabling = &mut self.tally.enabling;
         enabling.block(number, &before, call, record, answer);
         self.tally.left.block(number, &before, record);
+        self.tally.zeros.answer(number, answer.len());
+        if number == 0 {
+            let frames = read_back::hold(call, block, answer)?;
+            self.tally.zeros.block(&frames, record, store);
+        }
         Ok(number)
     }
 

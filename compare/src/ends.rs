@@ -59,6 +59,22 @@ impl Sending {
         })
     }
 
+    /// Offers a message at any circuit number with any priority, seldom with copies.
+    pub fn offer_anywhere(
+        &mut self,
+        both: &mut Both,
+        random: &mut Random,
+        message: &[u8],
+    ) -> Compared<()> {
+        let call = OfferCall {
+            circuit: random.next() % 4,
+            priority: random.next() % 4,
+            repetition: random.pick(&[0, 0, 0, 1, 5]),
+            message,
+        };
+        self.offer(both, call).map(|_| ())
+    }
+
     pub fn offer(&mut self, both: &mut Both, call: OfferCall<'_>) -> Compared<u32> {
         let OfferCall {
             circuit,
@@ -92,7 +108,8 @@ impl Sending {
         block: &mut [u8],
     ) -> Compared<Option<Block>> {
         let mut history_block = block.to_vec();
-        let mut answer = [0xEE; BLOCK_ANSWER];
+        let before = [0xEE; BLOCK_ANSWER];
+        let mut answer = before;
         let answered =
             both.sender_block(&mut self.record, &self.store, call, block, &mut answer)?;
         let made = self.history.block(
@@ -109,9 +126,8 @@ impl Sending {
             &self.history.record(),
         )?;
         same("the block", block, &history_block)?;
-        if let Ok(made) = &made {
-            same("the answer's bytes", &answer, &block_answer(made))?;
-        }
+        let told = made.as_ref().map_or(before, block_answer);
+        same("the answer's bytes", &answer, &told)?;
         Ok(made.ok())
     }
 }

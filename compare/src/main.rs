@@ -9,6 +9,7 @@ mod ends;
 mod inputs;
 mod library;
 mod random;
+mod read_back;
 mod stream;
 mod stuffing;
 mod tally;
@@ -21,7 +22,7 @@ use std::process::ExitCode;
 use std::time::{Duration, Instant, SystemTime, UNIX_EPOCH};
 use trials::{
     cuts, enabling, framings, left, lengths, lines, listing, packets, passes, reading, records,
-    sending, totals,
+    sending, totals, zeros,
 };
 
 /// A trial under its name, and how often it is made in a lap.
@@ -31,7 +32,7 @@ type Trial = (
     fn(&mut Both, &mut Random) -> Compared<()>,
 );
 
-const TRIALS: [Trial; 27] = [
+const TRIALS: [Trial; 28] = [
     ("listing", 10, listing::any),
     ("sending", 20, sending::run),
     ("few system packets", 20, enabling::few),
@@ -71,6 +72,7 @@ const TRIALS: [Trial; 27] = [
         framings::every_record_byte,
     ),
     ("the framing of a receiver", 20, framings::of_receiver),
+    ("stuffed zeros", 20, zeros::any),
 ];
 /// Laps of the gate.
 const LAPS: u64 = 16;
@@ -104,6 +106,7 @@ fn gate() -> Result<(), String> {
     enabling::all(&mut both).map_err(|difference| show(0, "every enable byte", 0, &difference))?;
     left::all(&mut both)
         .map_err(|difference| show(0, "every field of packets still to go", 0, &difference))?;
+    zeros::all(&mut both).map_err(|difference| show(0, "every byte stuffed", 0, &difference))?;
     framings::all(&mut both).map_err(|difference| show(0, "every framing", 0, &difference))?;
     totals::all(&mut both).map_err(|difference| show(0, "every answer", 0, &difference))?;
     lines::all(&mut both).map_err(|difference| show(0, "every byte of a line", 0, &difference))?;

@@ -4,6 +4,7 @@ mod enabling;
 mod framings;
 mod left;
 mod lines;
+mod zeros;
 
 use aes18_reference::calls::answered_notice;
 use aes18_reference::receiver::{Fate, Notice};
@@ -14,6 +15,7 @@ use left::Left;
 use lines::Lines;
 use std::collections::BTreeMap;
 use std::fmt;
+use zeros::Zeros;
 
 #[derive(Clone, Copy, Debug, PartialEq, Eq, PartialOrd, Ord)]
 pub enum Function {
@@ -224,6 +226,7 @@ pub struct Tally {
     pub cuts: Cuts,
     pub enabling: Enabling,
     pub left: Left,
+    pub zeros: Zeros,
     pub framings: Framings,
     pub noted: Noted,
     pub lines: Lines,
@@ -267,6 +270,7 @@ impl Tally {
             .chain(self.cuts.missing())
             .chain(self.enabling.missing())
             .chain(self.left.missing())
+            .chain(self.zeros.missing())
             .chain(self.framings.missing())
             .chain(self.noted.missing())
             .chain(self.lines.missing())
@@ -317,6 +321,7 @@ impl fmt::Display for Tally {
         writeln!(out, "{}", self.cuts)?;
         writeln!(out, "{}", self.enabling)?;
         writeln!(out, "{}", self.left)?;
+        writeln!(out, "{}", self.zeros)?;
         writeln!(out, "{}", self.framings)?;
         writeln!(out, "{}", self.noted)?;
         writeln!(out, "{}", self.lines)?;

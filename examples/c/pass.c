@@ -86,9 +86,9 @@ static void make_blocks(uint8_t *bits)
         check("block making",
               aes18_sender_block(record, sizeof record, store, sizeof store, BLOCK_BITS, USABLE_BITS, b == 0, enable, 1, info, sizeof info,
                                  bits + b * BLOCK_BYTES, BLOCK_BYTES, answer, sizeof answer));
-        printf("block %lu: %lu frames, %lu bits used, enable bits in force %u\n", (unsigned long)b,
+        printf("block %lu: %lu frames, %lu bits used, stuffed zeros among them %lu, enable bits in force %u\n", (unsigned long)b,
                (unsigned long)number(answer + AES18_BLOCK_PLACED, 4), (unsigned long)number(answer + AES18_BLOCK_USED, 4),
-               record[AES18_SENDER_ENABLE]);
+               (unsigned long)number(answer + AES18_BLOCK_ZEROS, 4), record[AES18_SENDER_ENABLE]);
         tell_left(record);
     }
 }

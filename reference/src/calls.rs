@@ -12,7 +12,7 @@ use crate::sender::{Block, Sender};
 use crate::totals::{Totals, TOTALS_RECORD};
 
 /// Bytes of the answer of block making.
-pub const BLOCK_ANSWER: usize = 8;
+pub const BLOCK_ANSWER: usize = 12;
 /// Bytes of the answer of reading.
 pub const READ_ANSWER: usize = 16;
 /// Bytes of the answer of a framing's read.
@@ -29,11 +29,13 @@ pub fn number<T>(result: &Result<T, u32>) -> u32 {
     result.as_ref().err().copied().unwrap_or(0)
 }
 
-/// The bytes that block making answers: frames placed and bits used.
+/// The bytes that block making answers: frames placed, bits used and stuffed zeros.
 pub fn block_answer(block: &Block) -> [u8; BLOCK_ANSWER] {
     let mut answer = [0; BLOCK_ANSWER];
-    answer[..4].copy_from_slice(&(block.placed() as u32).to_le_bytes());
-    answer[4..].copy_from_slice(&(block.used as u32).to_le_bytes());
+    let numbers = [block.placed(), block.used, block.zeros()];
+    for (bytes, number) in answer.chunks_mut(4).zip(numbers) {
+        bytes.copy_from_slice(&(number as u32).to_le_bytes());
+    }
     answer
 }
 

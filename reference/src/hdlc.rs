@@ -1,4 +1,4 @@
-//! 01, "Frames and bits": the FCS, stuffing, flags and bodies. 02, ask 2: bytes stuffed in two parts.
+//! 01, "Frames and bits": the FCS, stuffing, flags and bodies. 02, ask 2: bytes stuffed in two parts; ask 6: the zeros that stuffing adds.
 
 use crate::bits::{bits_of, bytes_of};
 use std::ops::Range;
@@ -77,6 +77,11 @@ pub fn unstuff(body: &[bool]) -> Vec<bool> {
 /// A packet's frame without its flags: packet and FCS, stuffed.
 pub fn frame(packet: &[u8]) -> Vec<bool> {
     stuff(&bits_of(&[packet, &fcs(packet)].concat()))
+}
+
+/// The zeros that stuffing added to a packet's frame: what it has more than the bits of the packet and of the FCS's two bytes.
+pub fn added_zeros(packet: &[u8], frame: &[bool]) -> usize {
+    frame.len() - 8 * (packet.len() + 2)
 }
 
 /// What a body comes to.

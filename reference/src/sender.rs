@@ -1,8 +1,9 @@
 //! 01, "Blocks" and the calls of a sender: a queue of waiting copies for each circuit, and blocks made of them. The system packets that were sent
-//! are kept, and the last of them tells which priorities are enabled (02, ask 4). The packets still to go are counted in the queues (02, ask 5).
+//! are kept, and the last of them tells which priorities are enabled (02, ask 4). The packets still to go are counted in the queues (02, ask 5), the
+//! stuffed zeros of a block in its frames (02, ask 6).
 
 use crate::bits::bytes_of;
-use crate::hdlc::{frame, FLAG};
+use crate::hdlc::{added_zeros, frame, FLAG};
 use crate::packet::{listed, packet_count, packets, Circuit, System};
 use crate::records::{
     put_circuits, SenderRecord, SenderSlot, ENABLE, LAST_SERVED, NO_SENDER, SENDER_RECORD,
@@ -96,6 +97,8 @@ impl Queue {
 pub struct Frame {
     pub circuit: Option<usize>,
     pub bits: Range<usize>,
+    /// The zeros that stuffing added.
+    pub zeros: usize,
 }
 
 /// What a block has got.
@@ -114,6 +117,11 @@ impl Block {
             .filter(|frame| frame.circuit.is_some())
             .count()
     }
+
+    /// The zeros that stuffing added to all frames, the system packet's included.
+    pub fn zeros(&self) -> usize {
+        self.frames.iter().map(|frame| frame.zeros).sum()
+    }
 }
 
 /// A block as it is written.
@@ -123,13 +131,16 @@ struct Writing {
 }
 
 impl Writing {
-    /// Puts a frame and a flag behind the flag that is last.
-    fn put(&mut self, circuit: Option<usize>, frame: &[bool]) {
+    /// Puts a packet's frame and a flag behind the flag that is last.
+    fn put(&mut self, circuit: Option<usize>, packet: &[u8], frame: &[bool]) {
         let start = self.bits.len() - FLAG.len();
         self.bits.extend_from_slice(frame);
         self.bits.extend_from_slice(&FLAG);
-        let bits = start..self.bits.len();
-        self.frames.push(Frame { circuit, bits });
+        self.frames.push(Frame {
+            circuit,
+            bits: start..self.bits.len(),
+            zeros: added_zeros(packet, frame),
+        });
     }
 }
 
@@ -265,15 +276,16 @@ impl Sender {
         };
         if let Some(system) = system {
             let packet = system.packet();
-            writing.put(None, &frame(&packet));
+            writing.put(None, &packet, &frame(&packet));
             self.systems.push(packet);
         }
         while let Some(number) = self.pick() {
-            let frame = frame(&self.queues[number].copies[0].1);
+            let packet = &self.queues[number].copies[0].1;
+            let frame = frame(packet);
             if writing.bits.len() + frame.len() + FLAG.len() > u {
                 break;
             }
-            writing.put(Some(number), &frame);
+            writing.put(Some(number), packet, &frame);
             self.queues[number].copies.pop_front();
             self.last_served = number;
         }

@@ -51,10 +51,10 @@ pub(crate) fn sender_block(
     u: u64,
     system: Option<SystemPacket<'_>>,
     block: &mut [u8],
-) -> Result<[u8; 8], Refusal> {
+) -> Result<[u8; 12], Refusal> {
     let wanted = u64::from(system.is_some());
     let system = system.unwrap_or_default();
-    let mut answer = [0; 8];
+    let mut answer = [0; 12];
     // SAFETY: as said at the head of this file.
     let number = unsafe {
         ffi::aes18_sender_block(

@@ -35,7 +35,7 @@ extern "C" {
 
     /// Makes a block of `n` user bits of which `u` may be used. `system` is 0 for no system packet; `enable`, `code` and `info` are then not looked
     /// at, and the enable bits in force, byte 54 of the record, stay. Else `enable` is in force, in this block and all later ones until another system
-    /// packet. The answer, 8 bytes: frames placed, bits used, each 4 bytes lowest first.
+    /// packet. The answer, 12 bytes: frames placed, bits used, stuffed zeros, each 4 bytes lowest first.
     pub fn aes18_sender_block(
         record: *mut u8,
         record_len: usize,

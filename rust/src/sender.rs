@@ -27,7 +27,8 @@ use crate::system::SystemPacket;
 /// assert_eq!(sender.waiting(0), 0);
 ///
 /// // Nothing waits: the next block holds a flag and ones.
-/// assert_eq!(sender.block(&store, 256, 256, None, &mut bits)?.used, 8);
+/// let block = sender.block(&store, 256, 256, None, &mut bits)?;
+/// assert_eq!((block.placed, block.used, block.zeros), (0, 8, 0));
 /// assert_eq!(bits[..3], [0x7E, 0xFF, 0xFF]);
 /// # Ok(())
 /// # }
@@ -38,12 +39,31 @@ pub struct Sender {
 }
 
 /// What was put into a block.
+///
+/// ```
+/// use aes18::{Block, Circuit, Sender, SENDER_STORE};
+///
+/// # fn main() -> Result<(), aes18::Refusal> {
+/// let mut store = [0; SENDER_STORE];
+/// let mut sender = Sender::list(&[Circuit { address: 0x10, extension: None }])?;
+/// sender.offer(&mut store, 0, 2, 1, &[0xFF; 5])?;
+///
+/// // A packet of 8 bytes and its FCS are 80 bits, to which stuffing adds 9 zeros. It is sent twice, with three flags of 8 bits.
+/// let block = sender.block(&store, 256, 256, None, &mut [0; 32])?;
+/// assert_eq!(block, Block { placed: 2, used: 202, zeros: 18 });
+/// # Ok(())
+/// # }
+/// ```
 #[derive(Clone, Copy, Debug, PartialEq, Eq)]
 pub struct Block {
     /// Frames placed, the system packet's not counted.
     pub placed: u32,
     /// Bits used: those before the closing ones.
     pub used: u32,
+    /// Stuffed zeros: those that stuffing added to the frames in the block, the system packet's and every placed copy's. Flags and closing ones have
+    /// none, and a frame that does not fit is not counted. They are among the bits used: where a frame's packet has `b` bytes, these are 8 and, for each
+    /// frame, `8 * (b + 2)` + its stuffed zeros + 8. A frame has at most `8 * (b + 2) / 5` of them, rounded down.
+    pub zeros: u32,
 }
 
 impl Sender {
@@ -98,11 +118,12 @@ impl Sender {
         system: Option<SystemPacket<'_>>,
         block: &mut [u8],
     ) -> Result<Block, Refusal> {
-        let [p0, p1, p2, p3, u0, u1, u2, u3] =
+        let [p0, p1, p2, p3, u0, u1, u2, u3, z0, z1, z2, z3] =
             calls::sender_block(&mut self.record, store, n, u, system, block)?;
         Ok(Block {
             placed: u32::from_le_bytes([p0, p1, p2, p3]),
             used: u32::from_le_bytes([u0, u1, u2, u3]),
+            zeros: u32::from_le_bytes([z0, z1, z2, z3]),
         })
     }
 

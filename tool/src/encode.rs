@@ -69,13 +69,18 @@ for no bytes. Numbers are decimal, or hex behind 0x.
 BITS gets the user bits of all blocks, joined bit by bit; where they are packed
 into bytes, up to seven 0 bits fill the last one. Where anything is wrong
 nothing is written. What was made is told on the standard error: each block,
-with the enable bits in force where they are not 15, and how many packets are
-still to go after it, at each circuit that has some; then the sums, and the
-enable bits in force behind the last block. A packet is still to go until its
-last copy is placed. A warning names each circuit that has such packets at the
-end, and says whether they wait for a later block or for their priority to be
-enabled. An offer at a circuit that has some is refused, and the refusal says
-how many.
+with its bits used, those before the closing ones, and how many of them are
+stuffed zeros, with the enable bits in force where they are not 15, and how many
+packets are still to go after it, at each circuit that has some; then the sums,
+and the enable bits in force behind the last block. A packet is still to go
+until its last copy is placed. A warning names each circuit that has such
+packets at the end, and says whether they wait for a later block or for their
+priority to be enabled. An offer at a circuit that has some is refused, and the
+refusal says how many.
+
+Stuffed zeros are what stuffing costs: the zeros that it adds behind five ones
+in the frames of a block, those of system packets and of all copies among them.
+In the sums they are also told in percent of the bits used.
 
 A capture (iec958) is in ALSA's format IEC958_SUBFRAME_LE, without a header:
 words of 32 bits, the lowest byte first, left and right in turn. In each are the

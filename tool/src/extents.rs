@@ -4,7 +4,7 @@
 use aes18::Notice;
 
 use crate::account::Heard;
-use crate::frames::{FLAG, FLAG_BITS};
+use crate::frames::{unstuffed_bits, FLAG, FLAG_BITS};
 
 /// Flags behind each other, eight of them: of eight bits each, and of seven where each begins with the last bit of the one before it.
 const WHOLE: u64 = u64::from_le_bytes([FLAG; 8]);
@@ -39,6 +39,15 @@ pub struct Stretch {
 }
 
 impl Stretch {
+    /// At a frame whose packet is told the stuffed zeros: what its body has beyond the bits of packet and FCS, which is what unstuffing drops.
+    pub fn zeros(&self) -> Option<u64> {
+        let Kind::Body(heard) = self.kind else {
+            return None;
+        };
+        let bits = self.to - self.from;
+        heard.bytes.map(|bytes| bits - unstuffed_bits(bytes))
+    }
+
     /// At a packet of a circuit before which packets were lost, or whose loss is known only modulo 8: the circuit's number, the loss, and whether it
     /// is known only so.
     pub fn loss(&self) -> Option<(usize, u8, bool)> {

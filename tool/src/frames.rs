@@ -11,6 +11,8 @@ const ESCAPE: u8 = 0x7D;
 const ESCAPED: u8 = 0x20;
 /// Ones behind which a zero is stuffed.
 const RUN: u32 = 5;
+/// Bytes of an FCS.
+const FCS_BYTES: u64 = 2;
 
 /// Bits in bytes, the first in the lowest bit; spare bits of the last byte are 0.
 #[derive(Default)]
@@ -69,6 +71,11 @@ fn unescaped(frame: &[u8]) -> Vec<u8> {
 /// A packet with its FCS behind it.
 pub fn with_fcs(packet: &[u8]) -> Result<Vec<u8>, Refusal> {
     on_line(packet).map(|frame| unescaped(&frame))
+}
+
+/// The bits that a frame has between its flags before stuffing: those of a packet of so many bytes, and of its FCS.
+pub fn unstuffed_bits(packet: u64) -> u64 {
+    8 * (packet + FCS_BYTES)
 }
 
 /// The packet of the body that passes with the last of the bits `from..to`, and none before, read by the framing as it was before them.

@@ -11,6 +11,8 @@ pub struct Listener {
     store: Vec<u8>,
     /// Whether no circuit is listed. The receiver lists one all the same, whose packets are told as those of any other.
     to_none: bool,
+    /// Whether every packet is told, as it is where no circuit is listed. That takes a second reading of each frame.
+    every_packet: bool,
 }
 
 /// What a reading call answers.
@@ -18,7 +20,7 @@ pub struct Listened {
     pub notice: Notice,
     /// How many bits it read; the next call goes on behind them.
     pub bits: u64,
-    /// At Elsewhere the packet, and where no circuit is listed at every frame that passes.
+    /// The packet: at Elsewhere, or at each frame that passes where every packet is told.
     pub packet: Option<Packet>,
 }
 
@@ -44,7 +46,14 @@ impl Listener {
             receiver: receiver.map_err(|refusal| Error::Data(refusal.to_string()))?,
             store: vec![0; RECEIVER_STORE],
             to_none,
+            every_packet: to_none,
         })
+    }
+
+    /// The same with every packet told.
+    pub fn with_every_packet(mut self) -> Listener {
+        self.every_packet = true;
+        self
     }
 
     /// Reads the bits `from..to` of the bytes up to the first notice.
@@ -57,7 +66,7 @@ impl Listener {
             Notice::Circuit { .. } if self.to_none => Notice::Elsewhere,
             notice => notice,
         };
-        let packet = match self.to_none || notice == Notice::Elsewhere {
+        let packet = match self.every_packet || notice == Notice::Elsewhere {
             true => frames::packet(framing, bytes, from, from + read.bits),
             false => Ok(None),
         };
@@ -85,8 +94,11 @@ mod tests {
 
     /// The notice of a packet, and the packet where it is told.
     fn hear(circuits: &[Circuit], packet: &[u8]) -> (Notice, Option<Vec<u8>>) {
+        hear_by(Listener::new(circuits).unwrap(), packet)
+    }
+
+    fn hear_by(mut listener: Listener, packet: &[u8]) -> (Notice, Option<Vec<u8>>) {
         let frame = frames::in_bits(&frames::with_fcs(packet).unwrap());
-        let mut listener = Listener::new(circuits).unwrap();
         let told = listener.read(&frame.bytes, 0, frame.count).unwrap();
         assert_eq!(told.bits, frame.count);
         (told.notice, told.packet.map(|packet| packet.to_vec()))
@@ -117,5 +129,11 @@ mod tests {
         assert_eq!(packet, None);
         let other = b"\x00\xA1\x07\x02hi".to_vec();
         assert_eq!(hear(&listed, &other), (Notice::Elsewhere, Some(other)));
+        let every = Listener::new(&listed).unwrap().with_every_packet();
+        let (again, packet) = hear_by(every, b"\x00\x81\x02hi");
+        assert_eq!(
+            (again, packet.as_deref()),
+            (notice, Some(&b"\x00\x81\x02hi"[..]))
+        );
     }
 }

@@ -27,7 +27,7 @@ pub struct Told {
     pub bits: u64,
     /// The notice that it stopped at, if there is one.
     pub heard: Option<Heard>,
-    /// At Elsewhere the packet, and where no circuit is listed at every frame that passes.
+    /// The packet: at Elsewhere, or at each frame that passes where every packet is told.
     pub packet: Option<Packet>,
 }
 
@@ -46,6 +46,12 @@ impl Pass {
     /// The same with a stretch for each flag, where flags behind each other may be one.
     pub fn with_each_flag(mut self) -> Pass {
         self.extents.each_flag = true;
+        self
+    }
+
+    /// The same with the packet told at each frame that passes, so that its stretch says how many zeros are stuffed.
+    pub fn with_every_packet(mut self) -> Pass {
+        self.listener = self.listener.with_every_packet();
         self
     }
 

@@ -93,6 +93,10 @@ pass by --strict, where a recording may begin with them: inside a frame, which
 has 208 bits at most before the flag behind it and no seven ones in a row, or
 inside closing ones, which are nothing but ones and, with --block N, fewer than
 N. A message that is open at the end is one of the places.
+Stuffed zeros are those that unstuffing drops in the frames that pass; bodies
+that do not pass count for nothing, and a frame that is shown in part counts
+whole. Where the bits of a plan came whole they are as many as aes18 encode
+told.
 Whole messages, their bytes, orphans and lost packets stop at
 4,294,967,295, which stands for that many or more. Bits and blocks are numbered
 from 0. With --from and --to the pass is still read from its first bit; figures
@@ -104,9 +108,10 @@ No trace is left by bits that are missing altogether, by dropouts to flags and
 by dropouts to ones behind a flag, with --block only up to its block's end.
 
 With --svg the picture goes to FILE in place of the terminal; with - nothing but
-the picture is written to the standard output. It says what a frame is when
-pointed at. A frame takes about 400 bytes in it, so that --from and --to are of
-use in a long pass. FILE appears when it is complete.
+the picture is written to the standard output. It says what a frame is, and how
+many zeros are stuffed in it, when pointed at. A frame takes about 400 bytes in
+it, so that --from and --to are of use in a long pass. FILE appears when it is
+complete.
 
 Where no frame passes in the whole file, a warning on the standard error says
 how many do in other formats and channels. Where the standard error is a
@@ -206,7 +211,9 @@ fn draw(
     let block = layout.blocks.then_some(layout.row);
     let mut drawing = Drawing {
         layout,
-        pass: Pass::new(&options.circuits, block, options.formats.spare())?.with_each_flag(),
+        pass: Pass::new(&options.circuits, block, options.formats.spare())?
+            .with_each_flag()
+            .with_every_packet(),
         tally: Tally::new(&options.circuits, options.places),
         draw,
     };

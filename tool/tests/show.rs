@@ -202,6 +202,7 @@ M  malformed                          0
 ~  before the first flag              0
 .  flags                             17
 -  closing ones                    1232
+   stuffed zeros                      4
 ^  packets lost before the frame that begins here, or known only modulo 8
 =  the frame goes on; x where it is an orphan or wrong
 
@@ -292,6 +293,15 @@ fn every_kind() {
     let svg = printed(&folder, &["--circuits", "01", "--svg", "-", "pass"]);
     let legend = "packets 5, copies 2, begun 1, held 1, messages 1, bytes 6, orphans 1, wrong 1";
     assert!(svg.contains(&format!(">circuit 0 (01): {legend}</text>")));
+    assert!(svg.contains(">bits 0 to 994, in rows of 1000 bits; stuffed zeros: 3</text>"));
+    for (title, zeros) in [
+        ("bits 8 to 79: 01, loss 0, Wrong", "0 stuffed zeros"),
+        ("code 3, length 1", "2 stuffed zeros"),
+        ("bits 898 to 986: Malformed", "1 stuffed zero"),
+    ] {
+        let title = format!("{title}; {zeros}</title>");
+        assert_eq!(svg.matches(&title).count(), 1, "{title}");
+    }
 }
 
 const KINDS: &str = "\
@@ -308,6 +318,7 @@ M  malformed                          1
 ~  before the first flag              0
 .  flags                             11
 -  closing ones                       0
+   stuffed zeros                      3
 ^  packets lost before the frame that begins here, or known only modulo 8
 =  the frame goes on; x where it is an orphan or wrong
 
@@ -354,6 +365,10 @@ fn a_range() {
     assert_eq!(note, "                         ^1 lost of circuit 1");
     let places = "\n3 places went wrong:\n  block 2, bits 520 to 687: in no frame, 168 bits\n";
     assert!(text.contains(places), "{text}");
+    assert!(
+        text.contains("\n   stuffed zeros                      2\n"),
+        "{text}"
+    );
 }
 
 #[test]
@@ -445,7 +460,8 @@ fn svg() {
         "two marks and the legend's"
     );
     assert_eq!(svg.matches("<g ").count(), 9, "nine rows");
-    let system = ": System, enable bits 15 (all priorities), code 1, length 3</title>";
+    let system =
+        ": System, enable bits 15 (all priorities), code 1, length 3; 2 stuffed zeros</title>";
     assert_eq!(svg.matches(system).count(), 1);
     let title = "<title>block 2, bits 520 to 687: Spoilt</title>";
     assert_eq!(svg.matches(title).count(), 1);

@@ -82,14 +82,7 @@ pub fn few(both: &mut Both, random: &mut Random) -> Compared<()> {
 fn offer(both: &mut Both, random: &mut Random, sending: &mut Sending) -> Compared<()> {
     let length = random.below(40);
     let message = inputs::message(random, length);
-    let call = OfferCall {
-        circuit: random.next() % 4,
-        priority: random.next() % 4,
-        repetition: random.pick(&[0, 0, 0, 1, 5]),
-        message: &message,
-    };
-    sending.offer(both, call)?;
-    Ok(())
+    sending.offer_anywhere(both, random, &message)
 }
 
 /// A block with a system packet that is refused by 11, 12 or 13.

@@ -13,3 +13,4 @@ pub mod reading;
 pub mod records;
 pub mod sending;
 pub mod totals;
+pub mod zeros;

@@ -184,7 +184,7 @@ pub fn every_sender_byte(both: &mut Both, random: &mut Random) -> Compared<()> {
             &store,
             plain(900, 880),
             &mut [0x5A; 120],
-            &mut [0x5A; 8],
+            &mut [0x5A; BLOCK_ANSWER],
         )?;
     }
     Ok(())
@@ -243,7 +243,7 @@ pub fn sender_edges(both: &mut Both, random: &mut Random) -> Compared<()> {
         record[at + 4..at + 6].copy_from_slice(&less.to_le_bytes());
         let mut mended = record.clone();
         mend_left(&mut mended);
-        let (block, answer) = (&mut [0x5A; 88], &mut [0x5A; 8]);
+        let (block, answer) = (&mut [0x5A; 88], &mut [0x5A; BLOCK_ANSWER]);
         both.sender_block(&mut record, &base.store, plain(700, 700), block, answer)?;
         both.sender_block(&mut mended, &base.store, plain(700, 700), block, answer)?;
     }
@@ -294,7 +294,7 @@ pub fn exact_fit(both: &mut Both, random: &mut Random) -> Compared<()> {
                 &base.store,
                 plain(n, u),
                 &mut block,
-                &mut [0; 8],
+                &mut [0; BLOCK_ANSWER],
             )?;
         }
     }

@@ -10,7 +10,7 @@ use Rattle.packet.specs.Circuits.{listRefusal, listing}
 use Rattle.offering.specs.Record.{fresh}
 use Rattle.offering.specs.Offering.{offerRefusal, senderAfterOffer, storeAfterOffer}
 use Rattle.sender.specs.Blocks.{System, blockRefusal, senderAfterBlock, bufferAfterBlock}
-use Rattle.sender.specs.BlockCalls.{system, framesPlaced, bitsUsed}
+use Rattle.sender.specs.BlockCalls.{system, framesPlaced, bitsUsed, zerosAdded}
 use Rattle.sender_layout.specs.SenderBytes.{senderLength, senderBytes, senderIn}
 use Rattle.sender_layout.specs.Answers.{blockAnswerLength, blockAnswerBytes}
 use Rattle.aes18.specs.Room.{noRoom}
@@ -67,4 +67,5 @@ blockWritten bytes store n u y block answer =
 unfoldable pub blockAnswer : List ℕ → List ℕ → ℕ → ℕ → System → List ℕ → List ℕ → List ℕ
 blockAnswer bytes store n u y block answer =
     cond (eqb (blockAnswered bytes store n u y block answer) 0)
-    (sets answer 0 (blockAnswerBytes (framesPlaced (senderIn bytes) store u y) (bitsUsed (senderIn bytes) store u y))) answer
+    (sets answer 0 (blockAnswerBytes (framesPlaced (senderIn bytes) store u y) (bitsUsed (senderIn bytes) store u y) (zerosAdded (senderIn bytes) store u y)))
+    answer

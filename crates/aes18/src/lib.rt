@@ -1,5 +1,6 @@
-// The AES18 user-bit channel for C and Rust: the calls of document 01, with enable bits that hold over (document 02, ask 4), pass totals and the serial
-// line (asks 1 and 3), and reading with the framing alone, over records and answers laid out in bytes (include/aes18.h).
+// The AES18 user-bit channel for C and Rust: the calls of document 01, with enable bits that hold over, packets still to go and added zeros (document 02,
+// asks 4 to 6), pass totals and the serial line (asks 1 and 3), and reading with the framing alone, over records and answers laid out in bytes
+// (include/aes18.h).
 
 use layout::answer_number;
 use layout::clipped;

@@ -1,5 +1,6 @@
--- The numbers of a block's answer have room in four bytes each: the bits used are at most U, and each frame placed has bits.
-use Prim.Native.Nat.{ℕ, _+_, _^_, _≤_, _<_}
+-- The numbers of a block's answer have room in four bytes each: the bits used are at most U, each frame placed has bits, and the added zeros are among the bits
+-- used.
+use Prim.Native.Nat.{ℕ, _^_, _≤_, _<_}
 use mathlib.Core.List.{List, [], _∷_, _++_}
 use mathlib.Core.Path.{_≡_}
 use native.Mathlib.Omega.{arith}
@@ -7,9 +8,10 @@ use lib.ListN.{length, length-append, length-map}
 use Rattle.hdlc.proofs.Ending.{length-flag}
 use Rattle.offering.specs.declared.Sender.{Sender}
 use Rattle.sender.specs.Blocks.{framesBits, flaggedFrames, PlacedFrame, placedPackets, System, systemPackets, enableBits, blockFilled, blockPackets, usedBits, blockRefusal}
-use Rattle.sender.specs.BlockCalls.{framesPlaced, bitsUsed}
+use Rattle.sender.specs.BlockCalls.{framesPlaced, bitsUsed, zerosAdded}
 use Rattle.sender.proofs.BlockRefusals.{accepted}
 use Rattle.sender.proofs.UsedAtMostU.{used-at-most-U}
+use Rattle.sender.proofs.UsedBits.{added-within}
 
 -- a frame has a flag after it
 framesBits-long : (ps : List (List ℕ)) → length ps ≤ length (framesBits ps)
@@ -34,3 +36,7 @@ module _ (s : Sender) (store buffer : List ℕ) (n u : ℕ) (y : System) (e : bl
 
   pub placed-fits : framesPlaced s store u y < 2 ^ 32
   placed-fits = omega (arith, placed-at-most-used s store u y, used-fits)
+
+  pub zeros-fits : zerosAdded s store u y < 2 ^ 32
+  unfolding usedBits
+  zeros-fits = omega (arith, added-within (blockPackets s store u (systemPackets y) (enableBits y)), used-fits)

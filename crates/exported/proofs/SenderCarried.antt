@@ -18,10 +18,10 @@ use Rattle.offering.specs.declared.Sender.{Sender}
 use Rattle.offering.specs.Record.{fresh}
 use Rattle.offering.specs.Offering.{offerRefusal, offeredStore, senderAfterOffer, storeAfterOffer}
 use Rattle.sender.specs.Blocks.{System, systemPackets, enableBits, blockBits, blockBuffer, blockRefusal, senderAfterBlock, bufferAfterBlock}
-use Rattle.sender.specs.BlockCalls.{framesPlaced, bitsUsed}
+use Rattle.sender.specs.BlockCalls.{framesPlaced, bitsUsed, zerosAdded}
 use Rattle.layout.specs.Layout.{lowBytes, circuitBytes, circuitsBytes}
 use Rattle.sender_layout.specs.SenderBytes.{senderLength, slotBytes, slotsBytes, senderBytes, senderIn}
-use Rattle.sender_layout.specs.Answers.{blockAnswerLength, blockAnswerBytes, placedTold, usedTold}
+use Rattle.sender_layout.specs.Answers.{blockAnswerLength, blockAnswerBytes, placedTold, usedTold, zerosTold}
 use Rattle.layout.specs.Fits.{Four}
 use Rattle.sender_layout.specs.Fits.{SenderSlotFits, SenderFits}
 use Rattle.layout.proofs.Parts.{four-elements}
@@ -29,7 +29,7 @@ use Rattle.sender_layout.proofs.SenderRoundTrip.{sender-unpacks, sender-fits}
 use Rattle.aes18.specs.Room.{noRoom}
 use Rattle.aes18.specs.SenderCalls.{listRecord, offerAnswered, offerRecord, offerStore, blockAnswered, blockRecord, blockWritten, blockAnswer}
 use Rattle.sender_layout.proofs.AnswersRead.{length-blockAnswerBytes, block-answer-unpacks}
-use Rattle.exported.proofs.BlockAnswers.{used-fits, placed-fits}
+use Rattle.exported.proofs.BlockAnswers.{used-fits, placed-fits, zeros-fits}
 use Rattle.exported.proofs.Fitting.{lowBytes-Bytes, circuits-Bytes}
 use Rattle.exported.proofs.SenderFitsKept.{fits-fresh, fits-offered, fits-made}
 
@@ -149,21 +149,27 @@ module _ (bytes : List ℕ) (long : senderLength ≤ length bytes) (store : List
         go false e =
             rw (le-ltb (length bytes) senderLength long, lt-ltb (length answer) blockAnswerLength (leb-false _ _ e)) (refl, refl)
 
-    -- C reads the frames placed and the bits used in the answer of an accepted call
+    -- C reads the frames placed, the bits used and the added zeros in the answer of an accepted call
     pub block-told : blockAnswered bytes store n u y block answer ≡ 0
         → (placedTold (blockAnswer bytes store n u y block answer) ≡ framesPlaced (senderIn bytes) store u y)
         × (usedTold (blockAnswer bytes store n u y block answer) ≡ bitsUsed (senderIn bytes) store u y)
+        × (zerosTold (blockAnswer bytes store n u y block answer) ≡ zerosAdded (senderIn bytes) store u y)
     unfolding blockAnswer noRoom
     block-told z = go (leb blockAnswerLength (length answer)) refl
       where
         go : (t : Bool) → leb blockAnswerLength (length answer) ≡ t
             → (placedTold (blockAnswer bytes store n u y block answer) ≡ framesPlaced (senderIn bytes) store u y)
             × (usedTold (blockAnswer bytes store n u y block answer) ≡ bitsUsed (senderIn bytes) store u y)
+            × (zerosTold (blockAnswer bytes store n u y block answer) ≡ zerosAdded (senderIn bytes) store u y)
         go true e =
             let s = senderIn bytes in
             let accepted : blockRefusal s store block n u y ≡ 0 = rw e at (sym (block-answers .0)) ∙ z in
-            let v = blockAnswerBytes (framesPlaced s store u y) (bitsUsed s store u y) in
-            let inside : length v ≤ length answer = omega (arith, length-blockAnswerBytes (framesPlaced s store u y) (bitsUsed s store u y), leb-true blockAnswerLength (length answer) e) in
+            let placed = framesPlaced s store u y in
+            let used = bitsUsed s store u y in
+            let zeros = zerosAdded s store u y in
+            let v = blockAnswerBytes placed used zeros in
+            let inside : length v ≤ length answer = omega (arith, length-blockAnswerBytes placed used zeros, leb-true blockAnswerLength (length answer) e) in
             rw (z, sets-behind [] answer v inside)
-            (block-answer-unpacks _ _ (placed-fits s store block n u y accepted) (used-fits s store block n u y accepted) (drop (length v) answer))
+            (block-answer-unpacks placed used zeros (placed-fits s store block n u y accepted) (used-fits s store block n u y accepted)
+            (zeros-fits s store block n u y accepted) (drop (length v) answer))
         go false e = absurd (omega (arith, rw e at (sym (block-answers .0)) ∙ z))

@@ -1,26 +1,32 @@
 -- Lists of the sender's exported calls leave, in bytes, what document 01's calls leave: the record's bytes carry the record from call to call.
 use Prim.Native.Nat.{ℕ, zero, suc, _+_, _*_, _≤_, _<_}
 use mathlib.Core.Bool.{Bool, true, false, cond, not, _&&_}
-use mathlib.Core.List.{List, [], _∷_}
+use mathlib.Core.List.{List, [], _∷_, map}
 use mathlib.Core.Path.{_≡_, refl, sym, ap, subst, _∙_}
 use native.Mathlib.Omega.{arith}
 use lib.ListN.{length}
 use lib.Dec.{leb, eqb}
 use Rattle.bits.specs.Bits.{Bytes}
+use Rattle.bits.proofs.Tests.{and-right}
 use Rattle.offering.specs.declared.Sender.{Sender}
 use Rattle.offering.specs.Record.{slotAt}
 use Rattle.sender.specs.Blocks.{System, bufferAfterBlock}
-use Rattle.sender.specs.BlockCalls.{framesPlaced, bitsUsed}
-use Rattle.queues.specs.Calls.{Call, offer, block, End, freshEnd, accepted, afterCall, afterCalls, queuesAfterCalls}
+use Rattle.sender.specs.BlockCalls.{madeOf, framesPlaced, bitsUsed, zerosAdded, answerToBlock}
+use Rattle.sender.specs.declared.Made.the-variants.{Block}
+use Rattle.queues.specs.Calls.{Call, offer, block, End, freshEnd, accepted, afterCall, afterCalls, effect, queuesAfterCalls}
+use Rattle.queues.specs.Effects.{takenBy}
+use Rattle.queues.specs.AddedZeros.{answerByPackets, answerTo}
 use Rattle.queues.specs.EnableBits.{enableAfter, EnableInForce}
 use Rattle.queues.specs.Queues.{queueAt}
 use Rattle.queues.specs.Sent.{eachOnce}
 use Rattle.queues.specs.PacketsLeft.{LeftCounts}
 use Rattle.queues.proofs.EnableInForce.{enable-in-force}
 use Rattle.queues.proofs.LeftCounts.{left-counts}
+use Rattle.queues.proofs.StandsCalls.{stands-queues}
+use Rattle.queues.proofs.ZerosCounted.{answered-accepted}
 use Rattle.layout.specs.Layout.{byteAt, numberAt}
 use Rattle.sender_layout.specs.SenderBytes.{senderLength, slotIn, senderIn}
-use Rattle.sender_layout.specs.Answers.{blockAnswerLength, placedTold, usedTold}
+use Rattle.sender_layout.specs.Answers.{blockAnswerLength, placedTold, usedTold, zerosTold}
 use Rattle.aes18.specs.Room.{noRoom}
 use Rattle.aes18.specs.SenderCalls.{listRecord, blockWritten, blockAnswer}
 use Rattle.exported.specs.Lent.{Lent, LentCall, callAnswered, callRefusal, callHasRoom, afterLentCall, afterLentCalls, callsOf}
@@ -92,15 +98,17 @@ module _ (bytes : List ℕ) (room : senderLength ≤ length bytes) where
         block-answers (e .bytes) still (e .store) n u y buffer answer .1
         ∙ ap (λ (s : End). cond (leb blockAnswerLength (length answer)) (bufferAfterBlock (s .sender) (s .store) buffer n u y) buffer) same
 
-    -- the numbers in the answer of an accepted call are document 01's
+    -- the numbers in the answer of an accepted call are those of the papers' call
     pub call-answer : (n u : ℕ) (y : System) (buffer : List ℕ) → callAnswered e (block n u buffer y) answer ≡ 0
         → (placedTold (blockAnswer (e .bytes) (e .store) n u y buffer answer) ≡ framesPlaced (s .sender) (s .store) u y)
         × (usedTold (blockAnswer (e .bytes) (e .store) n u y buffer answer) ≡ bitsUsed (s .sender) (s .store) u y)
+        × (zerosTold (blockAnswer (e .bytes) (e .store) n u y buffer answer) ≡ zerosAdded (s .sender) (s .store) u y)
     unfolding callAnswered
     call-answer n u y buffer z =
         let told = block-told (e .bytes) still (e .store) n u y buffer answer z in (
           told .0 ∙ ap (λ (s : End). framesPlaced (s .sender) (s .store) u y) same,
           told .1 ∙ ap (λ (s : End). bitsUsed (s .sender) (s .store) u y) same,
+          told .2 ∙ ap (λ (s : End). zerosAdded (s .sender) (s .store) u y) same,
         )
 
     -- every call leaves the state that document 01's leaves; one that has no room leaves it as it was
@@ -160,6 +168,23 @@ module _ (bytes : List ℕ) (room : senderLength ≤ length bytes) where
       left-told (afterLentCalls (record { bytes = listRecord bytes list; store = store }) cs .bytes) c four
       ∙ ap (λ (s : Sender). slotAt s c .left) (calls-carried are list listed store cs .sender .sender)
       ∙ left-counts list store (callsOf cs) c
+
+  -- and the three numbers that an accepted block call behind them tells are those by the system packet and the packets that the block rule takes
+  pub answer-bytes : Bytes bytes → (list : List ℕ) → Bytes list → (store : List ℕ) (cs : List LentCall) (n u : ℕ) (y : System) (buffer answer : List ℕ) →
+      let e = afterLentCalls (record { bytes = listRecord bytes list; store = store }) cs in
+      let told = blockAnswer (e .bytes) (e .store) n u y buffer answer in
+      callAnswered e (block n u buffer y) answer ≡ 0
+      → Block (placedTold told) (usedTold told) (zerosTold told) ∷ []
+      ≡ map answerByPackets (takenBy (queuesAfterCalls list store (callsOf cs)) (effect (block n u buffer y)))
+  unfolding answerTo answerToBlock madeOf accepted
+  answer-bytes are list listed store cs n u y buffer answer z =
+      let c = block n u buffer y in
+      let s = afterCalls (freshEnd list store) (callsOf cs) in
+      let h = calls-carried are list listed store cs in
+      let (placed, used, zeros) = call-answer _ s h answer n u y buffer z in
+      let yes : accepted s c ≡ true =
+      and-right (callHasRoom c answer) (accepted s c) (sym (call-accepted _ s h answer c) ∙ ap (λ k. eqb k 0) z) in
+      rw (placed, used, zeros) (rw yes at (answered-accepted c s (queuesAfterCalls list store (callsOf cs)) (stands-queues list store (callsOf cs)) yes))
 
 -- ---- a record shorter than it has to be
 

@@ -4,7 +4,7 @@ use native.Mathlib.Numerals.{add-one}
 use native.Mathlib.Omega.{arith}
 use mathlib.Core.List.{List, [], _∷_, _++_}
 use mathlib.Core.Path.{_≡_, refl, sym, ap, _∙_}
-use lib.ListN.{length, drop, getD}
+use lib.ListN.{length, drop, getD, length-append}
 use lib.Seq.{drop-cons}
 use Rattle.bits.specs.Bits.{bitsOf}
 use Rattle.bits.proofs.Bits.{bitsOf-append}
@@ -22,6 +22,9 @@ pub length-led : (number n : ℕ) → length (led number n []) ≡ n
 unfolding led
 length-led number zero = refl
 length-led number (suc n) = ap suc (length-led (number / 256) n)
+
+pub length-led-behind : (number n : ℕ) (bytes : List ℕ) → n + length bytes ≡ length (led number n bytes)
+length-led-behind number n bytes = rw (led-append number n bytes, length-append) (omega (arith, length-led number n))
 
 -- a byte below others
 pub Below-sum : {byte others : ℕ} → byte < 256 → Below byte others (byte + 256 * others)

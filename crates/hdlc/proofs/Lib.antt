@@ -1,4 +1,4 @@
--- The laws of `hdlc`: stuffing, writing piece by piece, and a packet with its FCS.
+-- The laws of `hdlc`: stuffing and the zeros that it adds, writing piece by piece, and a packet with its FCS.
 pub mod NoSix
 pub mod Stuffing
 pub mod Writing
@@ -12,4 +12,5 @@ pub mod Ending
 pub mod Leads
 pub mod WithFcs
 pub mod FrameLength
+pub mod AddedZeros
 pub mod StuffedInTwo

@@ -24,6 +24,17 @@ freeAfter (true ∷ bs) zero = freeAfter bs 4
 unfoldable pub stuff : List Bool → List Bool
 stuff bs = stuffFrom bs 4
 
+-- "its count of added zeros" (document 02, ask 6): the zeros that `stuffFrom` puts, counted where it puts them
+unfoldable pub addedFrom : List Bool → ℕ → ℕ
+addedFrom [] free = 0
+addedFrom (false ∷ bs) free = addedFrom bs 4
+addedFrom (true ∷ bs) (suc free) = addedFrom bs free
+addedFrom (true ∷ bs) zero = suc (addedFrom bs 4)
+
+-- those added from the start of a frame
+unfoldable pub added : List Bool → ℕ
+added bs = addedFrom bs 4
+
 -- the bits unstuffed, where `due` more ones make five, behind which a 0 is dropped; a sixth one, which only a void body has, is kept
 unfoldable pub unstuffFrom : List Bool → ℕ → List Bool
 unstuffFrom [] due = []

@@ -1,4 +1,4 @@
--- What the writing functions of `hdlc` say of the buffer and of the pen.
+-- What the writing functions of `hdlc` say of the buffer, of the pen and of the zeros added to a frame.
 use Prim.Native.Nat.{ℕ, _+_, _*_, _^_, _≤_, _<_}
 use mathlib.Core.Bool.{Bool}
 use mathlib.Core.List.{List, _++_}
@@ -8,8 +8,9 @@ use lib.Seq.{sets}
 use Rattle.bits.specs.Bits.{bitsOf}
 use Rattle.fcs.specs.Fcs.{fcsRun, complement, lowFirst}
 use Rattle.hdlc.specs.Stuffing.{stuffFrom, freeAfter}
-use Rattle.hdlc.specs.Frames.{flag}
+use Rattle.hdlc.specs.Frames.{flag, frame, addedIn}
 use Rattle.hdlc.specs.declared.Pen.{Pen}
+use Rattle.hdlc.specs.declared.zeros.Framed.{Framed}
 
 -- the bits have room in the buffer from bit `at` on, and their numbers fit the machine's words
 pub record Room (buffer : List ℕ) (at : ℕ) (bits : List Bool) : Type 0 where
@@ -47,3 +48,8 @@ pub record Stuffed (old : List ℕ) (pen : Pen) (bits : List Bool) (new : List �
 -- what ends a frame: the FCS of what the pen has written, stuffed, and a flag
 unfoldable pub ending : Pen → List Bool
 ending pen = stuffedBy pen (bitsOf (lowFirst (complement (pen .fcs)))) ++ flag
+
+-- a packet's frame and the flag behind it are written over the buffer's bits from bit `at` on, and `r` tells of them
+pub record FrameWritten (old : List ℕ) (at : ℕ) (packet : List ℕ) (new : List ℕ) (r : Framed) : Type 0 where
+  pub written : Written old at (frame packet ++ flag) new (r .at)
+  pub zeros : r .zeros ≡ addedIn packet

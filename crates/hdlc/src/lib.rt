@@ -6,14 +6,16 @@ ghost use Rattle.bits.specs.Bits.{byteBits, bitsOf};
 ghost use Rattle.hdlc.specs.Stuffing.{stuffFrom};
 ghost use Rattle.hdlc.specs.Frames.{flag, frame};
 ghost use Rattle.hdlc.specs.Chunks.{WriterRoom, WriterPut};
-ghost use Rattle.hdlc.specs.Writing.{Room, Written, Put, Stuffed, stuffedBy, ending};
+ghost use Rattle.hdlc.specs.Writing.{Room, Written, Put, Stuffed, stuffedBy, ending, FrameWritten};
 
 mod chunks;
 mod cuts;
 pub mod led;
+pub mod zeros;
 
 use bits::writer::BitWriter;
 use chunks::Chunk;
+use zeros::Framed;
 
 // Where the next bit of a frame goes, how many ones may come before the one behind which a 0 is stuffed, and the FCS register.
 pub struct Pen {
@@ -188,10 +190,11 @@ pub fn end_frame(buf: &mut [u8], pen: Pen) -> usize
 }
 
 // A packet's frame written at bit `at`, and the flag behind it.
-pub fn write_frame(buf: &mut [u8], at: usize, packet: &[u8]) -> usize
+pub fn write_frame(buf: &mut [u8], at: usize, packet: &[u8]) -> Framed
     requires { ⌜ Room (now buf) at (frame (now packet) ++ flag) ⌝ }
-    ensures { λ r. ⌜ Written (now (buf .entry)) at (frame (now (packet .entry)) ++ flag) (now (buf .exit)) r ⌝ }
+    ensures { λ r. ⌜ FrameWritten (now (buf .entry)) at (now (packet .entry)) (now (buf .exit)) r ⌝ }
 {
     let pen = stuff_bytes(buf, Pen::new(at), packet);
-    end_frame(buf, pen)
+    let end = end_frame(buf, pen);
+    Framed::of(packet.len(), at, end)
 }

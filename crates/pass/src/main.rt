@@ -1,6 +1,6 @@
 // A pass end to end on the proved calls. Four circuits take messages of telemetry as they get free, and twelve blocks carry them. The joined
 // bits are torn in five places and read back in uneven cuts, by a receiver that lists the circuits in another order.
-// The file `stdout` has what other code makes of document 01 (tests/pass).
+// The file `stdout` has what other code makes of documents 01 and 02 (tests/pass).
 use notices::Fate;
 use notices::Notice;
 use offering::Sender;
@@ -139,13 +139,19 @@ fn make(sender: Sender, store: &[u8], block: &mut [u8], number: usize) -> Making
 }
 
 fn print_block(number: usize, made: Made, sender: Sender) {
-    let Made::Block { placed, used } = made else {
+    let Made::Block {
+        placed,
+        used,
+        zeros,
+    } = made
+    else {
         return;
     };
     tell(b"  block ", number);
     tell(b": ", placed);
     tell(b" frames in ", used);
-    print(b" bits, left");
+    tell(b" bits, stuffed zeros ", zeros);
+    print(b", left");
     let t = sender.slots;
     print_numbers(&[t[0].left, t[1].left, t[2].left, t[3].left]);
     print(b"\n");

@@ -1,5 +1,5 @@
 -- The blocks that calls make from a fresh sender are those that the block rule takes from the queues: the N bits of each, as the call leaves
--- them.
+-- them. So is whatever else accepted calls tell by their blocks.
 use Prim.Native.Nat.{ℕ}
 use mathlib.Core.Bool.{Bool, true, false, cond}
 use mathlib.Core.List.{List, [], _∷_, _++_, map, map-append}
@@ -11,7 +11,7 @@ use Rattle.sender.specs.Blocks.{blockOf, System, systemPackets, enableBits, blo
 use Rattle.sender.proofs.InForce.{inForce-at-most-15}
 use Rattle.sender.proofs.UsedAtMostU.{take-bufferAfterBlock}
 use Rattle.queues.specs.Queues.{Queues, freshQueues}
-use Rattle.queues.specs.Effects.{noEffect, queuesAfterEffect, bitsOfBlock, takenBy, blocksTaken}
+use Rattle.queues.specs.Effects.{noEffect, queuesAfterEffect, TakenBlock, bitsOfBlock, takenBy, blocksTaken}
 use Rattle.queues.specs.Calls.{Call, offer, block, End, freshEnd, accepted, afterCall, effect, effectOf, effects, made, blocksMade}
 use Rattle.queues.specs.Stands.{Stands}
 use Rattle.queues.proofs.StandsBlock.{stands-block}
@@ -33,25 +33,39 @@ made-accepted (block n u buffer y) e q h a =
     ap (λ bits. bits ∷ []) (take-bufferAfterBlock (e .sender) (e .store) buffer n u y z)
     ∙ block-taken (e .sender) (e .store) q n u buffer y h z
 
--- the bits that a call leaves are those of what its effect takes
-pub made-call : (call : Call) (e : End) (q : Queues) → Stands (e .sender) (e .store) q
-    → cond (accepted e call) (made e call) [] ≡ map bitsOfBlock (takenBy q (effectOf e call))
-unfolding effectOf takenBy
-made-call call e q h = go (accepted e call) refl
-  where
-    go : (b : Bool) → accepted e call ≡ b → cond b (made e call) [] ≡ map bitsOfBlock (takenBy q (cond b (effect call) noEffect))
-    go true a = made-accepted call e q h a
-    go false a = refl
+-- ---- what accepted calls tell, one after another, is what the blocks that their effects take tell
 
--- those of all calls
+module _ {A : Type 0} (of : TakenBlock → A) (one : End → Call → List A)
+    (taken : (call : Call) (e : End) (q : Queues) → Stands (e .sender) (e .store) q → accepted e call ≡ true → one e call ≡ map of (takenBy q (effect call)))
+  where
+    told-call : (call : Call) (e : End) (q : Queues) → Stands (e .sender) (e .store) q
+        → cond (accepted e call) (one e call) [] ≡ map of (takenBy q (effectOf e call))
+    unfolding effectOf takenBy
+    told-call call e q h = go (accepted e call) refl
+      where
+        go : (b : Bool) → accepted e call ≡ b → cond b (one e call) [] ≡ map of (takenBy q (cond b (effect call) noEffect))
+        go true a = taken call e q h a
+        go false a = refl
+
+    -- `all` is what they tell in turn
+    module _ (all : End → List Call → List A) (none : (e : End) → all e [] ≡ [])
+        (more : (e : End) (call : Call) (calls : List Call) → all e (call ∷ calls) ≡ cond (accepted e call) (one e call) [] ++ all (afterCall e call) calls)
+      where
+        pub told-calls : (calls : List Call) (e : End) (q : Queues) → Stands (e .sender) (e .store) q
+            → all e calls ≡ map of (blocksTaken q (effects e calls))
+        unfolding blocksTaken effects
+        told-calls [] e q h = none e
+        told-calls (call ∷ calls) e q h =
+            let q′ : Queues = queuesAfterEffect q (effectOf e call) in
+            more e call calls
+            ∙ ap₂ _++_ (told-call call e q h) (told-calls calls (afterCall e call) q′ (stands-call call e q h))
+            ∙ sym (map-append of (takenBy q (effectOf e call)) (blocksTaken q′ (effects (afterCall e call) calls)))
+
+-- so it is with the bits that they leave
 blocksMade-blocksTaken : (calls : List Call) (e : End) (q : Queues) → Stands (e .sender) (e .store) q
     → blocksMade e calls ≡ map bitsOfBlock (blocksTaken q (effects e calls))
-unfolding blocksMade blocksTaken effects
-blocksMade-blocksTaken [] e q h = refl
-blocksMade-blocksTaken (call ∷ calls) e q h =
-    let q′ : Queues = queuesAfterEffect q (effectOf e call) in
-    ap₂ _++_ (made-call call e q h) (blocksMade-blocksTaken calls (afterCall e call) q′ (stands-call call e q h))
-    ∙ sym (map-append bitsOfBlock (takenBy q (effectOf e call)) (blocksTaken q′ (effects (afterCall e call) calls)))
+unfolding blocksMade
+blocksMade-blocksTaken = told-calls bitsOfBlock made made-accepted blocksMade (λ e. refl) (λ e call calls. refl)
 
 pub blocks-are-queues : (bytes store : List ℕ) (calls : List Call) → listRefusal bytes ≡ 0
     → blocksMade (freshEnd bytes store) calls

@@ -14,4 +14,5 @@ pub mod IndexCounts
 pub mod EnableInForce
 pub mod PlacedEnabled
 pub mod LeftCounts
+pub mod ZerosCounted
 pub mod Example

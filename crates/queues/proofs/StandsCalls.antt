@@ -82,7 +82,7 @@ module _ (cs : List Circuit) (few : length cs ≤ 4) (right : circuitsRefusal cs
           (StandsFor-fresh (getD cs c noCircuit) (drop (region * c) store))
 
 -- the record that a listing returned, and any first store
-stands-listing : (bytes store : List ℕ) → Stands (fresh (listing bytes)) store (freshQueues (listed (listing bytes)))
+pub stands-listing : (bytes store : List ℕ) → Stands (fresh (listing bytes)) store (freshQueues (listed (listing bytes)))
 unfolding circuitsRefusal anyOf twoAlike
 stands-listing bytes store =
     listing-either (λ cs. Stands (fresh cs) store (freshQueues (listed cs))) bytes

@@ -1,5 +1,6 @@
-// What the sender's calls mean, as queues of waiting copies: no code, only definitions, theorems, and five functions that carry those of document 02,
-// asks 4 and 5.
+// What the sender's calls mean, as queues of waiting copies: no code, only definitions, theorems, and six functions that carry those of document 02,
+// asks 4 to 6.
+ghost use Rattle.queues.specs.AddedZeros.{ZerosCounted};
 ghost use Rattle.queues.specs.EnableBits.{EnableInForce, PlacedEnabled};
 ghost use Rattle.queues.specs.PacketsLeft.{LeftCounts, LeftStands};
 ghost use Rattle.queues.specs.Stands.{InRangeStands};
@@ -22,6 +23,11 @@ fn left_counts()
 // So they are in every record that stands for queues.
 fn left_stands()
     ensures { λ r. ⌜ LeftStands ⌝ }
+{}
+
+// The answers to block calls are those by the system packet and the packets that the block rule takes from the queues, with the zeros added to their frames.
+fn zeros_counted()
+    ensures { λ r. ⌜ ZerosCounted ⌝ }
 {}
 
 // Every record in range stands for queues.

@@ -12,6 +12,7 @@ use lib.Dec.{eqb}
 use borrow.Author.Tests.{ne-eqb}
 use Rattle.bits.specs.Bits.{Bytes}
 use Rattle.hdlc.specs.Writing.{Written}
+use Rattle.hdlc.specs.declared.zeros.Framed.{Framed}
 use Rattle.hdlc.proofs.Writing.{Written-append}
 use Rattle.offering.specs.declared.Sender.{Sender}
 use Rattle.offering.specs.Record.{storeLength, inRange}
@@ -19,6 +20,7 @@ use Rattle.sender.specs.declared.Fill.{Fill}
 use Rattle.sender.specs.declared.Made.the-variants.{Block, Refused}
 use Rattle.sender.specs.Blocks.{
   framesBits,
+  addedInFrames,
   flaggedFrames,
   blockOf,
   placedPackets,
@@ -29,14 +31,15 @@ use Rattle.sender.specs.Blocks.{
   inForce,
   ruled,
   blockFilled,
+  blockPackets,
   usedBits,
   blockBits,
   blockRefusal,
   senderAfterBlock,
   bufferAfterBlock,
 }
-use Rattle.sender.specs.BlockCalls.{Allowed, FramesWritten, Closed, madeOf, answerToBlock, BlockWritten, BlockCalled}
-use Rattle.sender.proofs.UsedBits.{usedBits-behind}
+use Rattle.sender.specs.BlockCalls.{Allowed, OpeningWritten, FramesWritten, Closed, madeOf, answerToBlock, BlockWritten, BlockCalled}
+use Rattle.sender.proofs.UsedBits.{addedInFrames-append, added-within, usedBits-behind}
 use Rattle.sender.proofs.UsedAtMostU.{used-at-most-U}
 use Rattle.sender.proofs.OpeningBits.{length-opening}
 use Rattle.sender.proofs.BlockRefusals.{Accepted, accepted}
@@ -44,23 +47,29 @@ use Rattle.sender.proofs.InForce.{accepted-ruled-in-range}
 use Rattle.sender.proofs.BlockBits.{Closed-blockBuffer}
 
 -- frames written behind those of any packets before them
-module _ (s : Sender) (store : List ℕ) (u : ℕ) (before : List (List ℕ)) (newEnable : Option ℕ) {old b₁ b₂ : List ℕ} {at : ℕ} {r : Fill}
-    (opened : Written old 0 (flaggedFrames before) b₁ at)
-    (f : FramesWritten b₁ at (fillUp (ruled s newEnable) store at (ruled s newEnable .enable) u) b₂ r) where
-  FramesWritten-block : FramesWritten b₁ at (blockFilled s store u before newEnable) b₂ r
+module _ (s : Sender) (store : List ℕ) (u : ℕ) (before : List (List ℕ)) (newEnable : Option ℕ) {old b₁ b₂ : List ℕ} {front : Framed} {r : Fill}
+    (opened : OpeningWritten old before b₁ front)
+    (f : FramesWritten b₁ front (fillUp (ruled s newEnable) store (front .at) (ruled s newEnable .enable) u) b₂ r) where
+  FramesWritten-block : FramesWritten b₁ front (blockFilled s store u before newEnable) b₂ r
   unfolding blockFilled
   FramesWritten-block =
-      let e : at ≡ length (flaggedFrames before) = opened .behind ∙ zero-add (length (flaggedFrames before)) in
+      let e : front .at ≡ length (flaggedFrames before) = opened .written .behind ∙ zero-add (length (flaggedFrames before)) in
       rw (← e) f
 
   Written-used : Written old 0 (usedBits s store u before newEnable) b₂ (r .at)
   Written-used =
       let ours = placedPackets (blockFilled s store u before newEnable .frames) in
       rw (usedBits-behind s store u before newEnable)
-      (Written-append (flaggedFrames before) (framesBits ours) opened (FramesWritten-block .written))
+      (Written-append (flaggedFrames before) (framesBits ours) (opened .written) (FramesWritten-block .written))
 
   used-end : r .at ≡ length (usedBits s store u before newEnable)
   used-end = Written-used .behind ∙ zero-add (length (usedBits s store u before newEnable))
+
+  zeros-all : r .zeros ≡ addedInFrames (blockPackets s store u before newEnable)
+  unfolding blockPackets
+  zeros-all =
+      let ours = placedPackets (blockFilled s store u before newEnable .frames) in
+      rw (addedInFrames-append before ours) (omega (arith, FramesWritten-block .zeros, opened .zeros))
 
 module _ (s : Sender) (store old : List ℕ) (n u : ℕ) (y : System) where
   -- the record with these enable bits
@@ -83,19 +92,21 @@ module _ (s : Sender) (store old : List ℕ) (n u : ℕ) (y : System) where
     before-opening = (omega (arith, known), known .allowed)
 
     -- the opening is written
-    module _ {b₁ : List ℕ} {at : ℕ} (opened : Written old 0 (flaggedFrames (systemPackets y)) b₁ at) (l₁ : length b₁ ≡ length old) where
+    module _ {b₁ : List ℕ} {front : Framed} (opened : OpeningWritten old (systemPackets y) b₁ front) (l₁ : length b₁ ≡ length old) where
       pub before-frames : {enable : ℕ} → enable ≡ inForce (s .enable) (enableBits y)
-          → (inRange (under enable) ≡ true) × ((storeLength ≤ length store) × ((at ≤ u) × (u ≤ 8 * length b₁) × (u ≤ 27000)))
+          → (inRange (under enable) ≡ true)
+          × ((storeLength ≤ length store) × ((front .zeros ≤ front .at) × (front .at ≤ u) × (u ≤ 8 * length b₁) × (u ≤ 27000)))
       unfolding ruled
       before-frames {enable} e =
-          let within : at ≤ u = omega (arith, opened .behind, length-opening y (known .allowed), known) in
+          let few : front .zeros ≤ front .at = omega (arith, opened .zeros, opened .written .behind, added-within (systemPackets y)) in
+          let within : front .at ≤ u = omega (arith, opened .written .behind, length-opening y (known .allowed), known) in
           let range : inRange (under enable) ≡ true = rw e (accepted-ruled-in-range s store old n u y h) in
-          (range, (known .store-long, (within, omega (arith, l₁, known), omega (arith, known))))
+          (range, (known .store-long, (few, within, omega (arith, l₁, known), omega (arith, known))))
 
       -- and the frames are, under the enable bits in force
       module _ {enable : ℕ} {b₂ : List ℕ} {r : Fill} (e : enable ≡ inForce (s .enable) (enableBits y))
-          (f : FramesWritten b₁ at (fillUp (under enable) store at enable u) b₂ r) (l₂ : length b₂ ≡ length b₁) where
-        frames : FramesWritten b₁ at (fillUp (ruled s (enableBits y)) store at (ruled s (enableBits y) .enable) u) b₂ r
+          (f : FramesWritten b₁ front (fillUp (under enable) store (front .at) enable u) b₂ r) (l₂ : length b₂ ≡ length b₁) where
+        frames : FramesWritten b₁ front (fillUp (ruled s (enableBits y)) store (front .at) (ruled s (enableBits y) .enable) u) b₂ r
         unfolding ruled
         frames = rw (← e) f
 
@@ -121,11 +132,12 @@ module _ (s : Sender) (store old : List ℕ) (n u : ℕ) (y : System) where
               sender = rw h (filling .sender);
               placed = filling .placed;
               used = end;
+              zeros = zeros-all s store u (systemPackets y) (enableBits y) opened frames;
               buffer = rw h (Closed-blockBuffer old used n (omega (arith, used-le, known)) (known .buffer-long) written closed ho hn);
             }
 
     -- what the call returns then
     pub BlockCalled-made : {new : List ℕ} {r : Fill} → BlockWritten s store old n u y new r
-        → BlockCalled s store old n u y new (record { made = Block (r .placed) (r .at); sender = r .sender })
+        → BlockCalled s store old n u y new (record { made = Block (r .placed) (r .at) (r .zeros); sender = r .sender })
     unfolding answerToBlock madeOf
-    BlockCalled-made w = record { sender = w .sender; made = rw (h, w .placed, w .used); buffer = w .buffer }
+    BlockCalled-made w = record { sender = w .sender; made = rw (h, w .placed, w .used, w .zeros); buffer = w .buffer }

@@ -10,7 +10,9 @@ use lib.ListN.{length, length-append}
 use lib.Dec.{leb}
 use borrow.Author.Tests.{leb-true, leb-false, le-leb, lt-leb}
 use Rattle.hdlc.specs.Frames.{flag, frame}
-use Rattle.hdlc.specs.Writing.{Room, Written}
+use Rattle.hdlc.specs.Writing.{Room, FrameWritten}
+use Rattle.hdlc.specs.declared.zeros.Framed.{Framed}
+use Rattle.hdlc.proofs.AddedZeros.{length-flagged-added}
 use Rattle.hdlc.proofs.Ending.{length-flag}
 use Rattle.hdlc.proofs.Writing.{Written-append}
 use Rattle.offering.specs.declared.Sender.{Sender}
@@ -20,7 +22,7 @@ use Rattle.picking.proofs.PickingLaws.{served-in-range, length-served}
 use Rattle.writing.specs.NextFrame.{nextPacket, nextFrame}
 use Rattle.writing.proofs.FrameLength.{length-nextFrame}
 use Rattle.sender.specs.declared.Fill.{Fill}
-use Rattle.sender.specs.Blocks.{framesBits, PlacedFrame, placedPackets, Filled, full, andThen, placing, fillUp}
+use Rattle.sender.specs.Blocks.{framesBits, addedInFrames, PlacedFrame, placedPackets, Filled, full, andThen, placing, fillUp}
 use Rattle.sender.specs.BlockCalls.{FramesWritten}
 use Rattle.sender.proofs.Filling.{fillUp-step}
 
@@ -42,6 +44,12 @@ module _ (s : Sender) (store : List ℕ) (at enable u : ℕ) (e : inRange s ≡ 
     unfolding placing
     fillUp-more h = fillUp-step s store at enable u e l ∙ rw (p, le-leb (at + length (nextFrame s store c)) u h)
 
+-- the bit behind a circuit's next frame
+pub nextFrame-end : (s : Sender) (store : List ℕ) (c : ℕ) {old new : List ℕ} {at : ℕ} {r : Framed} → FrameWritten old at (nextPacket s store c) new r
+    → r .at ≡ at + length (nextFrame s store c)
+unfolding nextFrame
+nextFrame-end s store c w = w .written .behind
+
 -- the frame of a circuit at which a copy waits: where 209 bits are left it fits, it has room in 27 bytes, and its last bit's number is small
 module _ (s : Sender) (store : List ℕ) (c : ℕ) (range : inRange s ≡ true) (listed : c < s .circuits .count) (long : storeLength ≤ length store)
     (waits : pending (slotAt s c) ≡ true) where
@@ -60,52 +68,68 @@ nextFrame-some s store c = rw length-append (omega (arith, length-flag))
 
 -- ---- what a turn keeps
 
+-- what is written, with a frame behind it
+abbrev withNext : Framed → Framed → Framed
+withNext front next = record { at = next .at; zeros = front .zeros + next .zeros }
+
 -- a frame written before what is filled behind it
-FramesWritten-andThen : {old mid new : List ℕ} {at next : ℕ} (p : PlacedFrame) (f : Filled) (r : Fill)
-    → Written old at (frame (p .packet) ++ flag) mid next → FramesWritten mid next f new r
-    → FramesWritten old at (andThen p f) new (record { sender = r .sender; at = r .at; placed = suc (r .placed) })
-unfolding andThen placedPackets framesBits
+FramesWritten-andThen : {old mid new : List ℕ} {front next : Framed} (p : PlacedFrame) (f : Filled) (r : Fill)
+    → FrameWritten old (front .at) (p .packet) mid next → FramesWritten mid (withNext front next) f new r
+    → FramesWritten old front (andThen p f) new (record { sender = r .sender; at = r .at; placed = suc (r .placed); zeros = r .zeros })
+unfolding andThen placedPackets framesBits addedInFrames
 FramesWritten-andThen p f r w g =
     record {
       sender = g .sender;
-      written = Written-append (frame (p .packet) ++ flag) (framesBits (placedPackets (f .frames))) w (g .written);
+      written = Written-append (frame (p .packet) ++ flag) (framesBits (placedPackets (f .frames))) (w .written) (g .written);
       placed = ap suc (g .placed);
+      zeros = omega (arith, g .zeros, w .zeros);
     }
 
--- to fill what is left from here, with the frames placed so far, is to fill all from the start
-pub record ToFill (old : List ℕ) (s₀ : Sender) (store : List ℕ) (at₀ enable u : ℕ) (buffer : List ℕ) (s : Sender) (at placed : ℕ) : Type 0 where
+-- to fill what is left from here, with the frames placed and the zeros added so far, is to fill all from the start
+pub record ToFill (old : List ℕ) (s₀ : Sender) (store : List ℕ) (front : Framed) (enable u : ℕ) (buffer : List ℕ) (s : Sender) (at placed zeros : ℕ)
+    : Type 0 where
   pub long : length buffer ≡ length old
   pub range : inRange s ≡ true
   pub slots : length (s .slots) ≡ 4
   pub within : at ≤ u
   pub few : placed ≤ at
-  pub rest : (new : List ℕ) (r : Fill) → FramesWritten buffer at (fillUp s store at enable u) new r
-      → FramesWritten old at₀ (fillUp s₀ store at₀ enable u) new (record { sender = r .sender; at = r .at; placed = placed + r .placed })
+  pub fewer : zeros ≤ at
+  pub rest : (new : List ℕ) (r : Fill) → FramesWritten buffer (record { at = at; zeros = zeros }) (fillUp s store at enable u) new r
+      → FramesWritten old front (fillUp s₀ store (front .at) enable u) new
+      (record { sender = r .sender; at = r .at; placed = placed + r .placed; zeros = r .zeros })
 
-pub ToFill-start : (old : List ℕ) (s : Sender) (store : List ℕ) (at enable u : ℕ) → inRange s ≡ true → length (s .slots) ≡ 4 → at ≤ u
-    → ToFill old s store at enable u old s at 0
-ToFill-start old s store at enable u range slots within =
+pub ToFill-start : (old : List ℕ) (s : Sender) (store : List ℕ) (front : Framed) (enable u : ℕ) → inRange s ≡ true → length (s .slots) ≡ 4
+    → front .zeros ≤ front .at → front .at ≤ u → ToFill old s store front enable u old s (front .at) 0 (front .zeros)
+ToFill-start old s store front enable u range slots fewer within =
     record {
       long = refl;
       range = range;
       slots = slots;
       within = within;
       few = omega arith;
-      rest = λ new r f. record { sender = f .sender; written = f .written; placed = zero-add (r .placed) ∙ f .placed };
+      fewer = fewer;
+      rest = λ new r f. record { sender = f .sender; written = f .written; placed = zero-add (r .placed) ∙ f .placed; zeros = f .zeros };
     }
 
-module _ {old : List ℕ} {s₀ : Sender} {store : List ℕ} {at₀ enable u : ℕ} {buffer : List ℕ} {s : Sender} {at placed : ℕ}
-    (g : ToFill old s₀ store at₀ enable u buffer s at placed) where
+module _ {old : List ℕ} {s₀ : Sender} {store : List ℕ} {front : Framed} {enable u : ℕ} {buffer : List ℕ} {s : Sender} {at placed zeros : ℕ}
+    (g : ToFill old s₀ store front enable u buffer s at placed zeros) where
   -- all is filled
   abbrev Done : Type 0
-  Done = FramesWritten old at₀ (fillUp s₀ store at₀ enable u) buffer (record { sender = s; at = at; placed = placed })
+  Done = FramesWritten old front (fillUp s₀ store (front .at) enable u) buffer (record { sender = s; at = at; placed = placed; zeros = zeros })
 
   ends : fillUp s store at enable u ≡ full s → Done
-  unfolding full placedPackets framesBits
+  unfolding full placedPackets framesBits addedInFrames
   ends e =
-      let here : FramesWritten buffer at (fillUp s store at enable u) buffer (record { sender = s; at = at; placed = 0 }) =
-      rw e (record { sender = refl; written = record { buffer = refl; behind = sym (add-zero at) }; placed = refl }) in
-      rw add-zero at (g .rest buffer (record { sender = s; at = at; placed = 0 }) here)
+      let nothing : Fill = record { sender = s; at = at; placed = 0; zeros = zeros } in
+      let here : FramesWritten buffer (record { at = at; zeros = zeros }) (fillUp s store at enable u) buffer nothing =
+      rw e
+      (record {
+        sender = refl;
+        written = record { buffer = refl; behind = sym (add-zero at) };
+        placed = refl;
+        zeros = sym (add-zero zeros);
+      }) in
+      rw add-zero at (g .rest buffer nothing here)
 
   pub ToFill-none : pick s enable ≡ none → Done
   ToFill-none p = ends (fillUp-none s store at enable u (g .range) (g .slots) p)
@@ -121,27 +145,37 @@ module _ {old : List ℕ} {s₀ : Sender} {store : List ℕ} {at₀ enable u : �
       pub ToFill-room : u ≤ 8 * length old → u ≤ 27000 → Room buffer at (nextFrame s store c)
       ToFill-room within small = omega (arith, fits)
 
-      pub ToFill-step : {more : List ℕ} {next : ℕ} → Written buffer at (nextFrame s store c) more next → length more ≡ length buffer
-          → ToFill old s₀ store at₀ enable u more (served s c) next (placed + 1)
-      unfolding nextFrame
-      ToFill-step {more} {next} w l =
-          record {
-            long = l ∙ g .long;
-            range = served-in-range s enable c (g .range) p;
-            slots = length-served s c ∙ g .slots;
-            within = omega (arith, fits, w .behind);
-            few = omega (arith, nextFrame-some s store c, w .behind, g .few);
-            rest = again;
-          }
-        where
-          again : (new : List ℕ) (r : Fill) → FramesWritten more next (fillUp (served s c) store next enable u) new r
-              → FramesWritten old at₀ (fillUp s₀ store at₀ enable u) new (record { sender = r .sender; at = r .at; placed = placed + 1 + r .placed })
-          again new r f =
-              let later = fillUp (served s c) store next enable u in
-              let here : PlacedFrame = record { number = c; packet = nextPacket s store c } in
-              let e : fillUp s store at enable u ≡ andThen here later =
-              rw (← w .behind) at (fillUp-more s store at enable u (g .range) (g .slots) c p fits) in
-              let n : placed + suc (r .placed) ≡ placed + 1 + r .placed = omega arith in
-              rw n at
-              (g .rest new (record { sender = r .sender; at = r .at; placed = suc (r .placed) })
-              (rw e (FramesWritten-andThen here later r w f)))
+      module _ {more : List ℕ} {next : Framed} (w : FrameWritten buffer at (nextPacket s store c) more next) where
+        end : next .at ≡ at + length (nextFrame s store c)
+        end = nextFrame-end s store c w
+
+        -- the zeros added in the frame are some of its bits
+        pub zeros-within : zeros + next .zeros ≤ next .at
+        zeros-within = omega (arith, g .fewer, w .zeros, w .written .behind, length-flagged-added (nextPacket s store c))
+
+        pub ToFill-step : length more ≡ length buffer
+            → ToFill old s₀ store front enable u more (served s c) (next .at) (placed + 1) (zeros + next .zeros)
+        ToFill-step l =
+            record {
+              long = l ∙ g .long;
+              range = served-in-range s enable c (g .range) p;
+              slots = length-served s c ∙ g .slots;
+              within = omega (arith, fits, end);
+              few = omega (arith, nextFrame-some s store c, end, g .few);
+              fewer = zeros-within;
+              rest = again;
+            }
+          where
+            again : (new : List ℕ) (r : Fill)
+                → FramesWritten more (record { at = next .at; zeros = zeros + next .zeros }) (fillUp (served s c) store (next .at) enable u) new r
+                → FramesWritten old front (fillUp s₀ store (front .at) enable u) new
+                (record { sender = r .sender; at = r .at; placed = placed + 1 + r .placed; zeros = r .zeros })
+            again new r f =
+                let later = fillUp (served s c) store (next .at) enable u in
+                let here : PlacedFrame = record { number = c; packet = nextPacket s store c } in
+                let e : fillUp s store at enable u ≡ andThen here later =
+                rw (← end) at (fillUp-more s store at enable u (g .range) (g .slots) c p fits) in
+                let n : placed + suc (r .placed) ≡ placed + 1 + r .placed = omega arith in
+                rw n at
+                (g .rest new (record { sender = r .sender; at = r .at; placed = suc (r .placed); zeros = r .zeros })
+                (rw e (FramesWritten-andThen here later r w f)))

@@ -7,10 +7,10 @@ use lib.Dec.{eqb}
 use Rattle.sender.specs.declared.Made.the-variants.{Block, Refused}
 use Rattle.sender.specs.BlockCalls.{madeOf, madeNumber}
 
-pub madeNumber-madeOf : (n placed used : ℕ) → madeNumber (madeOf n placed used) ≡ n
+pub madeNumber-madeOf : (n placed used zeros : ℕ) → madeNumber (madeOf n placed used zeros) ≡ n
 unfolding madeNumber madeOf
-madeNumber-madeOf n placed used = go (eqb n 0) refl
+madeNumber-madeOf n placed used zeros = go (eqb n 0) refl
   where
-    go : (t : Bool) → eqb n 0 ≡ t → madeNumber (cond t (Block placed used) (Refused n)) ≡ n
+    go : (t : Bool) → eqb n 0 ≡ t → madeNumber (cond t (Block placed used zeros) (Refused n)) ≡ n
     go true e = sym (eqb-true n 0 e)
     go false e = refl

@@ -1,21 +1,22 @@
 -- What a block begins with: a flag, and if one is wanted the system packet's frame and a flag. How long it is, and that it is written in
 -- these pieces.
-use mathlib.Core.Path.{_≡_, refl}
+use mathlib.Core.Path.{_≡_, refl, sym, _∙_}
 use Prim.Native.Nat.{ℕ, _+_, _*_, _≤_}
 use native.Mathlib.Omega.{arith}
 use mathlib.Core.Bool.{Bool, true, false}
 use mathlib.Core.List.{List, _++_, append-nil}
 use lib.ListN.{length, length-append}
-use Rattle.hdlc.specs.Frames.{flag, frame}
+use Rattle.hdlc.specs.Frames.{flag, frame, addedIn}
 use Rattle.hdlc.specs.Leads.{led, Below}
-use Rattle.hdlc.specs.Writing.{Room, Written}
+use Rattle.hdlc.specs.Writing.{Room, Written, FrameWritten}
+use Rattle.hdlc.specs.declared.zeros.Framed.{Framed}
 use Rattle.hdlc.proofs.Writing.{Written-append}
 use Rattle.hdlc.proofs.Ending.{length-flag}
 use Rattle.hdlc.proofs.Leads.{led-three}
 use Rattle.hdlc.proofs.FrameLength.{length-frame}
 use Rattle.packet.specs.Packets.{systemPacket}
-use Rattle.sender.specs.Blocks.{framesBits, flaggedFrames, System, systemPackets}
-use Rattle.sender.specs.BlockCalls.{Allowed}
+use Rattle.sender.specs.Blocks.{framesBits, addedInFrames, flaggedFrames, System, systemPackets}
+use Rattle.sender.specs.BlockCalls.{Allowed, OpeningWritten}
 
 -- a system packet is three bytes of a number, and the information
 pub led-system : (enable code : ℕ) (information : List ℕ) {number control descriptor : ℕ} → Below 0xff control number →
@@ -68,10 +69,21 @@ module _ (y : System) where
       let m : length wantedBits ≤ 200 = length-system (y .enable) (y .code) (y .information) (allowed .information) in
       omega arith
 
-  -- what is written is the opening
-  pub Written-flag-alone : {old new : List ℕ} {at : ℕ} → y .wanted ≡ false → Written old 0 flag new at → Written old 0 opening new at
-  Written-flag-alone e w = rw (opening-flag e) w
+  -- the zeros added in it
+  added-wanted : y .wanted ≡ true → addedInFrames (systemPackets y) ≡ addedIn (systemPacket (y .enable) (y .code) (y .information))
+  unfolding systemPackets addedInFrames
+  added-wanted e = rw e (omega arith)
 
-  pub Written-opening : {old mid new : List ℕ} {at end : ℕ} → y .wanted ≡ true → Written old 0 flag mid at → Written mid at wantedBits new end
-      → Written old 0 opening new end
-  Written-opening e v w = rw (opening-wanted e) (Written-append flag wantedBits v w)
+  added-none : y .wanted ≡ false → addedInFrames (systemPackets y) ≡ 0
+  unfolding systemPackets addedInFrames
+  added-none e = rw e
+
+  -- what is written is the opening
+  pub OpeningWritten-flag : {old new : List ℕ} {at : ℕ} → y .wanted ≡ false → Written old 0 flag new at
+      → OpeningWritten old (systemPackets y) new (record { at = at; zeros = 0 })
+  OpeningWritten-flag e w = record { written = rw (opening-flag e) w; zeros = sym (added-none e) }
+
+  pub OpeningWritten-system : {old mid new : List ℕ} {at : ℕ} {r : Framed} → y .wanted ≡ true → Written old 0 flag mid at
+      → FrameWritten mid at (systemPacket (y .enable) (y .code) (y .information)) new r → OpeningWritten old (systemPackets y) new r
+  OpeningWritten-system e v w =
+      record { written = rw (opening-wanted e) (Written-append flag wantedBits v (w .written)); zeros = w .zeros ∙ sym (added-wanted e) }

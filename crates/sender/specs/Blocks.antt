@@ -1,4 +1,4 @@
--- Block making (document 01, "Blocks" and "Calls and their refusals").
+-- Block making (document 01, "Blocks" and "Calls and their refusals"; document 02, asks 4 and 6).
 use Prim.Native.Nat.{ℕ, zero, suc, _+_, _-_, _*_, _/_}
 use mathlib.Core.Bool.{Bool, true, cond, not, _&&_, _||_}
 use mathlib.Core.List.{List, [], _∷_, _++_, map}
@@ -6,7 +6,7 @@ use mathlib.Core.Option.{Option, none, some}
 use lib.ListN.{length, drop, take, replicate}
 use lib.Dec.{leb, ltb, eqb}
 use Rattle.bits.specs.Bits.{bytesOf}
-use Rattle.hdlc.specs.Frames.{flag, frame}
+use Rattle.hdlc.specs.Frames.{flag, frame, addedIn}
 use Rattle.packet.specs.Packets.{systemPacket}
 use Rattle.offering.specs.declared.Slot.{Slot}
 use Rattle.offering.specs.declared.Sender.{Sender}
@@ -20,6 +20,11 @@ use Rattle.writing.specs.NextFrame.{nextPacket, nextFrame}
 unfoldable pub framesBits : List (List ℕ) → List Bool
 framesBits [] = []
 framesBits (p ∷ ps) = (frame p ++ flag) ++ framesBits ps
+
+-- "the sum over its frames" (document 02, ask 6): the zeros that stuffing adds to the frames of packets
+unfoldable pub addedInFrames : List (List ℕ) → ℕ
+addedInFrames [] = 0
+addedInFrames (p ∷ ps) = addedIn p + addedInFrames ps
 
 -- "a flag; ..; then frames, each with a flag after it, neighbours sharing flags"
 unfoldable pub flaggedFrames : List (List ℕ) → List Bool

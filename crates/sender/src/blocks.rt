@@ -6,17 +6,18 @@ ghost use mathlib.Core.List.{List, _++_};
 ghost use lib.ListN.{length};
 ghost use lib.Dec.{leb};
 ghost use Rattle.hdlc.specs.Frames.{flag, frame};
-ghost use Rattle.hdlc.specs.Writing.{Room, Written};
+ghost use Rattle.hdlc.specs.Writing.{Room, FrameWritten};
 ghost use Rattle.packet.specs.Packets.{systemPacket};
 ghost use Rattle.offering.specs.declared.Sender.{Sender};
 ghost use Rattle.offering.specs.Record.{storeLength, slotAt, pending, inRange};
 ghost use Rattle.writing.specs.NextFrame.{nextFrame};
-ghost use Rattle.sender.specs.Blocks.{flaggedFrames, fillUp, systemPackets, enableBits, inForce, wrongSystem, blockRefusal};
-ghost use Rattle.sender.specs.BlockCalls.{system, Allowed, FramesWritten, Closed, BlockWritten, BlockCalled};
+ghost use Rattle.sender.specs.Blocks.{fillUp, systemPackets, enableBits, inForce, wrongSystem, blockRefusal};
+ghost use Rattle.sender.specs.BlockCalls.{system, Allowed, OpeningWritten, FramesWritten, Closed, BlockWritten, BlockCalled};
 use crate::Fill;
 use crate::Made;
 use crate::Making;
 use hdlc::led::below;
+use hdlc::zeros::Framed;
 use offering::Sender;
 use picking::Pick;
 use picking::rule;
@@ -25,26 +26,27 @@ use picking::rule;
 const LONGEST: usize = 209;
 
 // A system packet's frame written at bit `at`, and the flag behind it.
-fn put_system(buf: &mut [u8], at: usize, enable: u8, code: u8, information: &[u8]) -> usize
+fn put_system(buf: &mut [u8], at: usize, enable: u8, code: u8, information: &[u8]) -> Framed
     requires { ⌜ Allowed enable code (now information) ⌝ }
     requires { ⌜ Room (now buf) at (frame (systemPacket enable code (now information)) ++ flag) ⌝ }
-    ensures { λ r. ⌜ Written (now (buf .entry)) at (frame (systemPacket enable code (now (information .entry))) ++ flag) (now (buf .exit)) r ⌝ }
+    ensures { λ r. ⌜ FrameWritten (now (buf .entry)) at (systemPacket enable code (now (information .entry))) (now (buf .exit)) r ⌝ }
 {
     let n = information.len() as u8;
     let descriptor = below(16 * code + n, 0);
     let number = below(0xff, below(192 + enable, descriptor));
-    hdlc::led::write_led(buf, at, number, 3, information)
+    let end = hdlc::led::write_led(buf, at, number, 3, information);
+    Framed::of(3 + information.len(), at, end)
 }
 
 // What a block begins with: a flag, and if one is wanted the system packet's frame and a flag.
-fn put_opening(buf: &mut [u8], wanted: bool, enable: u8, code: u8, information: &[u8]) -> usize
+fn put_opening(buf: &mut [u8], wanted: bool, enable: u8, code: u8, information: &[u8]) -> Framed
     requires { ⌜ 256 ≤ 8 * length (now buf) ⌝ }
     requires { ⌜ (wanted ≡ true → Allowed enable code (now information)) ⌝ }
-    ensures { λ r. ⌜ Written (now (buf .entry)) 0 (flaggedFrames (systemPackets (system wanted enable code (now (information .entry))))) (now (buf .exit)) r ⌝ }
+    ensures { λ r. ⌜ OpeningWritten (now (buf .entry)) (systemPackets (system wanted enable code (now (information .entry)))) (now (buf .exit)) r ⌝ }
 {
     let at = hdlc::put_flag(buf, 0);
     if !wanted {
-        return at;
+        return Framed { at, zeros: 0 };
     }
     put_system(buf, at, enable, code, information)
 }
@@ -62,20 +64,21 @@ fn fits(sender: Sender, store: &[u8], circuit: usize, at: usize, u: usize) -> bo
         return true;
     }
     let mut scratch = [0u8; 27];
-    let length = writing::put_next(&mut scratch, 0, sender, store, circuit);
-    at + length <= u
+    let measured = writing::put_next(&mut scratch, 0, sender, store, circuit);
+    at + measured.at <= u
 }
 
-// Frames from bit `at` on, each with a flag after it, until none waits or the next would pass u.
-fn fill(buf: &mut [u8], sender: Sender, store: &[u8], at: usize, enable: u8, u: usize) -> Fill
+// Frames behind what is written already, each with a flag after it, until none waits or the next would pass u; the zeros are counted on from there.
+fn fill(buf: &mut [u8], sender: Sender, store: &[u8], front: Framed, enable: u8, u: usize) -> Fill
     requires { ⌜ inRange sender ≡ true ⌝ }
     requires { ⌜ storeLength ≤ length (now store) ⌝ }
-    requires { ⌜ (at ≤ u) × (u ≤ 8 * length (now buf)) × (u ≤ 27000) ⌝ }
-    ensures { λ r. ⌜ FramesWritten (now (buf .entry)) at (fillUp sender (now (store .entry)) at enable u) (now (buf .exit)) r ⌝ }
+    requires { ⌜ (front .zeros ≤ front .at) × (front .at ≤ u) × (u ≤ 8 * length (now buf)) × (u ≤ 27000) ⌝ }
+    ensures { λ r. ⌜ FramesWritten (now (buf .entry)) front (fillUp sender (now (store .entry)) (front .at) enable u) (now (buf .exit)) r ⌝ }
 {
     let mut s = sender;
-    let mut end = at;
+    let mut end = front.at;
     let mut placed: usize = 0;
+    let mut zeros = front.zeros;
     loop {
         let picked = rule::pick(s, enable);
         let Pick::Circuit(circuit) = picked else {
@@ -84,7 +87,9 @@ fn fill(buf: &mut [u8], sender: Sender, store: &[u8], at: usize, enable: u8, u: 
         if !fits(s, store, circuit, end, u) {
             break;
         }
-        end = writing::put_next(buf, end, s, store, circuit);
+        let framed = writing::put_next(buf, end, s, store, circuit);
+        end = framed.at;
+        zeros += framed.zeros;
         s = rule::serve(s, circuit);
         placed += 1;
     }
@@ -92,6 +97,7 @@ fn fill(buf: &mut [u8], sender: Sender, store: &[u8], at: usize, enable: u8, u: 
         sender: s,
         at: end,
         placed,
+        zeros,
     }
 }
 
@@ -202,10 +208,10 @@ pub fn write_block(
     requires { ⌜ blockRefusal sender (now store) (now buf) n u (system wanted enable code (now information)) ≡ 0 ⌝ }
     ensures { λ r. ⌜ BlockWritten sender (now (store .entry)) (now (buf .entry)) n u (system wanted enable code (now (information .entry))) (now (buf .exit)) r ⌝ }
 {
-    let at = put_opening(buf, wanted, enable, code, information);
+    let opening = put_opening(buf, wanted, enable, code, information);
     let mut s = sender;
     s.enable = in_force(sender.enable, wanted, enable);
-    let f = fill(buf, s, store, at, s.enable, u);
+    let f = fill(buf, s, store, opening, s.enable, u);
     close(buf, f.at, n);
     f
 }
@@ -238,6 +244,7 @@ pub fn make_block(
         made: Made::Block {
             placed: f.placed,
             used: f.at,
+            zeros: f.zeros,
         },
         sender: after,
     }

@@ -4,16 +4,21 @@ pub mod blocks;
 
 use offering::Sender;
 
-// What filling a block leaves: the record, the bit behind the frames, and how many there are.
+// What filling a block leaves: the record, the bit behind the frames, how many there are, and the zeros that stuffing added in the block up to there.
 pub struct Fill {
     pub sender: Sender,
     pub at: usize,
     pub placed: usize,
+    pub zeros: usize,
 }
 
-// The answer to a block call: the frames placed and the bits used, or the refusal's number.
+// The answer to a block call: the frames placed, the bits used and the zeros that stuffing added among them, or the refusal's number.
 pub enum Made {
-    Block { placed: usize, used: usize },
+    Block {
+        placed: usize,
+        used: usize,
+        zeros: usize,
+    },
     Refused(u8),
 }
 

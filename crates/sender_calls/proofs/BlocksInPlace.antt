@@ -26,12 +26,12 @@ module _ (bytes store : List ℕ) (n u : ℕ) (y : System) (block answer : List 
 
   pub block-accepted : {s : Sender} → s ≡ senderIn bytes → blockRefusal s store block n u y ≡ 0 → {newBlock : List ℕ} {f : Fill}
       → BlockWritten s store block n u y newBlock f → {new newAnswer : List ℕ} → new ≡ sets bytes 0 (senderBytes (f .sender))
-      → newAnswer ≡ sets answer 0 (blockAnswerBytes (f .placed) (f .at)) → BlockMade bytes store n u y block answer 0 new newBlock newAnswer
+      → newAnswer ≡ sets answer 0 (blockAnswerBytes (f .placed) (f .at) (f .zeros)) → BlockMade bytes store n u y block answer 0 new newBlock newAnswer
   unfolding recordAfterBlock answerAfterBlock
   block-accepted in-is none w new-is answer-is =
       rw (← in-is, none) (
         refl,
         new-is ∙ ap (λ t. sets bytes 0 (senderBytes t)) (w .sender),
         w .buffer,
-        answer-is ∙ rw (w .placed, w .used),
+        answer-is ∙ rw (w .placed, w .used, w .zeros),
       )

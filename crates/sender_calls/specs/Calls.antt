@@ -6,7 +6,7 @@ use lib.Seq.{sets}
 use lib.Dec.{eqb}
 use Rattle.offering.specs.Offering.{offerRefusal, senderAfterOffer}
 use Rattle.sender.specs.Blocks.{System, blockRefusal, senderAfterBlock}
-use Rattle.sender.specs.BlockCalls.{framesPlaced, bitsUsed}
+use Rattle.sender.specs.BlockCalls.{framesPlaced, bitsUsed, zerosAdded}
 use Rattle.sender_layout.specs.SenderBytes.{senderBytes, senderIn}
 use Rattle.sender_layout.specs.Answers.{blockAnswerBytes}
 
@@ -24,4 +24,5 @@ recordAfterBlock bytes store n u y block =
 unfoldable pub answerAfterBlock : List ℕ → List ℕ → ℕ → ℕ → System → List ℕ → List ℕ → List ℕ
 answerAfterBlock bytes store n u y block answer =
     cond (eqb (blockRefusal (senderIn bytes) store block n u y) 0)
-    (sets answer 0 (blockAnswerBytes (framesPlaced (senderIn bytes) store u y) (bitsUsed (senderIn bytes) store u y))) answer
+    (sets answer 0 (blockAnswerBytes (framesPlaced (senderIn bytes) store u y) (bitsUsed (senderIn bytes) store u y) (zerosAdded (senderIn bytes) store u y)))
+    answer

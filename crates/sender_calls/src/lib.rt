@@ -147,6 +147,6 @@ pub fn block(
     let made = write_block(sender, store, block, n, u, wanted, enable, code, info);
     let after = made.sender;
     put_sender(record, after);
-    put_block_answer(answer, made.placed, made.at);
+    put_block_answer(answer, made.placed, made.at, made.zeros);
     0
 }

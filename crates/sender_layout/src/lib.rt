@@ -17,7 +17,7 @@ use offering::Slot;
 // The lengths of a sender's record and of a block's answer.
 pub const LENGTH: usize = 55;
 
-pub const ANSWER: usize = 8;
+pub const ANSWER: usize = 12;
 
 // The slot in ten bytes.
 pub fn slot_in(bytes: &[u8], at: usize) -> Slot
@@ -108,11 +108,12 @@ pub fn put_sender(bytes: &mut [u8], sender: Sender)
     copying::copy_at(bytes, 53, &end);
 }
 
-// A block's answer goes to the start of the bytes lent: the frames placed and the bits used.
-pub fn put_block_answer(bytes: &mut [u8], placed: usize, used: usize)
+// A block's answer goes to the start of the bytes lent: the frames placed, the bits used and the zeros added among them.
+pub fn put_block_answer(bytes: &mut [u8], placed: usize, used: usize, zeros: usize)
     requires { ⌜ blockAnswerLength ≤ length (now bytes) ⌝ }
-    ensures { λ r. ⌜ now (bytes .exit) ≡ sets (now (bytes .entry)) 0 (blockAnswerBytes placed used) ⌝ }
+    ensures { λ r. ⌜ now (bytes .exit) ≡ sets (now (bytes .entry)) 0 (blockAnswerBytes placed used zeros) ⌝ }
 {
     put_number(bytes, 0, 4, placed);
     put_number(bytes, 4, 4, used);
+    put_number(bytes, 8, 4, zeros);
 }

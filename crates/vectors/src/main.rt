@@ -3,9 +3,10 @@
 // - CRC-16/X-25, also called CRC-16/IBM-SDLC: the check value of the published catalogues of CRC algorithms;
 // - ISO/IEC 14443-3, annex B: the three examples of CRC_B, which is the same FCS;
 // - ITU-T X.25, appendix I: a SABM command and a UA response as whole frames, bit by bit, the inserted 0 of the first included.
-// Then frames with a tear in them are read, and whole blocks are made for chosen calls: what they give follows from document 01.
+// Then frames with a tear in them are read, and whole blocks are made for chosen calls: what they give follows from documents 01 and 02.
 use framing::Check;
 use framing::Framing;
+use hdlc::zeros::Framed;
 use offering::Sender;
 use packet::Answer;
 use printing::print;
@@ -81,27 +82,29 @@ fn read_back(bytes: &[u8], to: usize)
     print(b" bits\n");
 }
 
-// A packet as a frame between two flags, at the buffer's start: the number of its bits.
-fn write(buffer: &mut [u8], packet: &[u8]) -> usize
+// A packet as a frame between two flags, at the buffer's start: the number of its bits, and of the zeros added to it.
+fn write(buffer: &mut [u8], packet: &[u8]) -> Framed
     requires { ⌜ (length (now buffer) ≡ 32) × (length (now packet) ≤ 19) ⌝ }
-    ensures { λ r. ⌜ r ≤ 256 ⌝ }
+    ensures { λ r. ⌜ r .at ≤ 256 ⌝ }
 {
     let body = hdlc::put_flag(buffer, 0);
     hdlc::write_frame(buffer, body, packet)
 }
 
-// A packet of at most 19 bytes as a frame, bit by bit, and read back.
+// A packet of at most 19 bytes as a frame, bit by bit, with the zeros added to it, and read back.
 fn frame_of(packet: &[u8]) {
     if 19 < packet.len() {
         return;
     }
     let mut buffer = [0u8; 32];
-    let end = write(&mut buffer, packet);
+    let written = write(&mut buffer, packet);
     print_bytes(packet);
     print(b" frame ");
-    print_bits(&buffer, 0, end);
+    print_bits(&buffer, 0, written.at);
+    print(b" zeros ");
+    print_number(written.zeros);
     print(b" read ");
-    read_back(&buffer, end);
+    read_back(&buffer, written.at);
 }
 
 // The same with one bit of it turned over.
@@ -113,13 +116,13 @@ fn torn_frame_of(packet: &[u8], bit: usize) {
         return;
     }
     let mut buffer = [0u8; 32];
-    let end = write(&mut buffer, packet);
+    let written = write(&mut buffer, packet);
     let old = bits::get_bit(&buffer, bit);
     bits::put_bit(&mut buffer, bit, !old);
     print(b"bit ");
     print_number(bit);
     print(b" torn: ");
-    read_back(&buffer, end);
+    read_back(&buffer, written.at);
 }
 
 fn print_refusal(number: u8) {
@@ -184,11 +187,17 @@ fn block(
     let made = making.made;
     let after = making.sender;
     match made {
-        Made::Block { placed, used } => {
+        Made::Block {
+            placed,
+            used,
+            zeros,
+        } => {
             print(b"placed ");
             print_number(placed);
             print(b" used ");
             print_number(used);
+            print(b" zeros ");
+            print_number(zeros);
             print_left(after);
             print(b" ");
             print_bytes(&buffer);

@@ -36,11 +36,16 @@ length-frameAt : (c : Circuit) (t : Slot) (m : List ℕ) → pending t ≡ true 
     → length (frame (packetAt c t m) ++ flag) ≤ 209
 length-frameAt c t m h e = length-frame-flag (packetAt c t m) (length-packetAt c t m h e)
 
--- the next frame is that of the slot's next packet
+-- the next packet is the slot's, and the next frame is that of the slot's next packet
+pub nextPacket-packetAt : (s : Sender) (store : List ℕ) (c : ℕ)
+    → nextPacket s store c ≡ packetAt (getD (s .circuits .list) c noCircuit) (slotAt s c) (messageAt s store c)
+unfolding nextPacket
+nextPacket-packetAt s store c = refl
+
 pub nextFrame-packetAt : (s : Sender) (store : List ℕ) (c : ℕ)
     → nextFrame s store c ≡ frame (packetAt (getD (s .circuits .list) c noCircuit) (slotAt s c) (messageAt s store c)) ++ flag
-unfolding nextFrame nextPacket
-nextFrame-packetAt s store c = refl
+unfolding nextFrame
+nextFrame-packetAt s store c = rw nextPacket-packetAt
 
 -- a listed circuit of a record in range: its number, its slot and its message, its next frame, its extension
 module _ (s : Sender) (store : List ℕ) (c : ℕ) (e : inRange s ≡ true) (h : c < s .circuits .count) (l : storeLength ≤ length store) where

@@ -7,11 +7,12 @@ ghost use Prim.Native.Nat.{_≤_, _<_};
 ghost use lib.ListN.{length};
 ghost use Rattle.hdlc.specs.Frames.{flag, frame};
 ghost use Rattle.hdlc.specs.Leads.{led};
-ghost use Rattle.hdlc.specs.Writing.{Room, Written};
+ghost use Rattle.hdlc.specs.Writing.{Room, FrameWritten};
 ghost use Rattle.offering.specs.Record.{storeLength, slotAt, pending, slotInRange, inRange, messageAt};
-ghost use Rattle.writing.specs.NextFrame.{nextFrame};
+ghost use Rattle.writing.specs.NextFrame.{nextPacket, nextFrame};
 ghost use Rattle.writing.specs.PacketParts.{packetAt, controlAt, headerAt, leadOf, partAt};
 use hdlc::led::below;
+use hdlc::zeros::Framed;
 use offering::Sender;
 use offering::Slot;
 use packet::Circuit;
@@ -97,16 +98,18 @@ fn part_of(slot: Slot, message: &[u8]) -> &[u8]
 }
 
 // The frame of a slot's next packet written at bit `at`, and the flag behind it.
-fn put_packet(buf: &mut [u8], at: usize, circuit: Circuit, slot: Slot, message: &[u8]) -> usize
+fn put_packet(buf: &mut [u8], at: usize, circuit: Circuit, slot: Slot, message: &[u8]) -> Framed
     requires { ⌜ slotInRange slot ≡ true ⌝ }
     requires { ⌜ pending slot ≡ true ⌝ }
     requires { ⌜ circuit .extended < 2 ⌝ }
     requires { ⌜ length (now message) ≡ slot .length ⌝ }
     requires { ⌜ Room (now buf) at (frame (packetAt circuit slot (now message)) ++ flag) ⌝ }
-    ensures { λ r. ⌜ Written (now (buf .entry)) at (frame (packetAt circuit slot (now (message .entry))) ++ flag) (now (buf .exit)) r ⌝ }
+    ensures { λ r. ⌜ FrameWritten (now (buf .entry)) at (packetAt circuit slot (now (message .entry))) (now (buf .exit)) r ⌝ }
 {
     let lead = lead_of(circuit, slot);
-    hdlc::led::write_led(buf, at, lead.bytes, lead.len, part_of(slot, message))
+    let part = part_of(slot, message);
+    let end = hdlc::led::write_led(buf, at, lead.bytes, lead.len, part);
+    Framed::of(lead.len + part.len(), at, end)
 }
 
 // The message of a circuit, at the start of its region.
@@ -124,13 +127,13 @@ fn message_at(sender: Sender, store: &[u8], circuit: usize) -> &[u8]
 }
 
 // The frame of the first copy waiting at a circuit written at bit `at`, and the flag behind it.
-pub fn put_next(buf: &mut [u8], at: usize, sender: Sender, store: &[u8], circuit: usize) -> usize
+pub fn put_next(buf: &mut [u8], at: usize, sender: Sender, store: &[u8], circuit: usize) -> Framed
     requires { ⌜ inRange sender ≡ true ⌝ }
     requires { ⌜ circuit < sender .circuits .count ⌝ }
     requires { ⌜ pending (slotAt sender circuit) ≡ true ⌝ }
     requires { ⌜ storeLength ≤ length (now store) ⌝ }
     requires { ⌜ Room (now buf) at (nextFrame sender (now store) circuit) ⌝ }
-    ensures { λ r. ⌜ Written (now (buf .entry)) at (nextFrame sender (now (store .entry)) circuit) (now (buf .exit)) r ⌝ }
+    ensures { λ r. ⌜ FrameWritten (now (buf .entry)) at (nextPacket sender (now (store .entry)) circuit) (now (buf .exit)) r ⌝ }
 {
     let circuits = sender.circuits;
     let list = circuits.list;

@@ -1,6 +1,6 @@
 //! A sending end that goes from call to call.
 
-use aes18_reference::calls::{self, number, BlockCall, OfferCall, BLOCK_ANSWER};
+use aes18_reference::calls::{self, block_answer, number, BlockCall, OfferCall, BLOCK_ANSWER};
 use aes18_reference::records::SENDER_RECORD;
 use aes18_reference::sender::Sender;
 use aes18_reference::SENDER_STORE;
@@ -21,6 +21,8 @@ pub const PLAIN: BlockCall = BlockCall {
 pub struct End {
     sender: Sender,
     pub record: [u8; SENDER_RECORD],
+    /// The answer of the last block call that was accepted.
+    pub answer: [u8; BLOCK_ANSWER],
     store: Vec<u8>,
 }
 
@@ -31,6 +33,7 @@ impl End {
         End {
             sender: Sender::list(&LIST).unwrap(),
             record,
+            answer: [0x5A; BLOCK_ANSWER],
             store: vec![0; SENDER_STORE],
         }
     }
@@ -52,7 +55,7 @@ impl End {
         answered
     }
 
-    /// A block in `room` bytes with so much of the store: the circuits of its frames, or the refusal's number.
+    /// A block in `room` bytes with so much of the store: the circuits of its frames, or the refusal's number. A refused one leaves the answer as it was.
     pub fn block_in(
         &mut self,
         call: BlockCall<'_>,
@@ -60,12 +63,13 @@ impl End {
         room: usize,
     ) -> Result<Vec<usize>, u32> {
         let (mut block, mut again) = (vec![0; room], vec![0; room]);
-        let (store, answer) = (&self.store[..store], &mut [0; BLOCK_ANSWER]);
+        let (store, before, answer) = (&self.store[..store], self.answer, &mut self.answer);
         let answered = calls::sender_block(&mut self.record, store, call, &mut block, answer);
         let made = self
             .sender
             .block(store, call.n, call.u, call.wanted(), &mut again);
         assert_eq!((answered, block), (number(&made), again));
+        assert_eq!(self.answer, made.as_ref().map_or(before, block_answer));
         assert_eq!(self.record, self.sender.record());
         made.map(|made| made.frames.iter().filter_map(|f| f.circuit).collect())
     }

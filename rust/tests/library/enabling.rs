@@ -119,7 +119,7 @@ fn none_enabled_holds_everything_back() {
     for _ in 0..100 {
         let mut bits = [0; BYTES];
         let made = end.sender.block(&end.store, N, N, None, &mut bits).unwrap();
-        assert_eq!((made.placed, made.used), (0, 8));
+        assert_eq!((made.placed, made.used, made.zeros), (0, 8, 0));
         assert_eq!((bits[0], &bits[1..]), (0x7E, &[0xFF; BYTES - 1][..]));
         assert_eq!(end.sender, before);
     }
@@ -177,7 +177,7 @@ fn arguments_without_a_system_packet_leave_them() {
     let mut end = End::new();
     end.block(Some(0b0110));
     let mut record = *end.sender.as_bytes();
-    let (mut block, mut answer) = ([0; BYTES], [0; 8]);
+    let (mut block, mut answer) = ([0; BYTES], [0; 12]);
     for enable in [0, 9, 15, 16, 255, u64::MAX] {
         // SAFETY: each pointer is of a slice and passed with its length, and those that are written overlap no other.
         let number = unsafe {

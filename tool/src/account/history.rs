@@ -9,6 +9,8 @@ use crate::listener::{Listened, Listener};
 #[derive(Clone, Copy, Debug, PartialEq, Eq)]
 pub struct Heard {
     pub notice: Notice,
+    /// How many bytes the packet has, where it is told.
+    pub bytes: Option<u64>,
     /// At Elsewhere the packet's circuit.
     pub elsewhere: Option<Circuit>,
     /// How much stands in no frame between the circuit's last packet and this one, where that is enough for the loss, or that it is a copy, to be
@@ -23,6 +25,7 @@ impl Heard {
     pub fn plain(notice: Notice) -> Heard {
         Heard {
             notice,
+            bytes: None,
             elsewhere: None,
             doubt: None,
             dropped: false,
@@ -72,10 +75,12 @@ impl History {
     pub fn hear(&mut self, told: &Listened, place: u64, free: u64, listener: &Listener) -> Heard {
         let notice = told.notice;
         self.passed |= notice != Notice::Spoilt;
+        let packet = told.packet.as_deref();
+        let bytes = packet.map(|packet| packet.len() as u64);
         let Notice::Circuit { number, loss, fate } = notice else {
-            let packet = told.packet.as_deref();
             let packet = packet.filter(|_| notice == Notice::Elsewhere);
             return Heard {
+                bytes,
                 elsewhere: packet.and_then(circuits::of_packet),
                 ..Heard::plain(notice)
             };
@@ -90,6 +95,7 @@ impl History {
         }
         Heard {
             notice,
+            bytes,
             elsewhere: None,
             doubt: since.filter(|since| *since >= self.doubtful),
             dropped,

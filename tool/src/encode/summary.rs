@@ -1,5 +1,7 @@
 //! What was made of a plan.
 
+use aes18::Block;
+
 use super::plan::Plan;
 use super::sending::{Made, Sending};
 use crate::enable::EnableBits;
@@ -11,6 +13,9 @@ pub struct Summary {
     lines: String,
     blocks: u64,
     bits: u64,
+    used: u64,
+    /// Stuffed zeros, which are among the bits used.
+    zeros: u64,
 }
 
 impl Summary {
@@ -22,24 +27,31 @@ impl Summary {
             bits => format!(", enable bits in force {bits}"),
         };
         let left = still_to_go(plan, made);
+        let Block {
+            placed,
+            used,
+            zeros,
+        } = made.block;
         self.lines += &format!(
-            "{}:{}: block {}: {} placed, {} of {} bits used{enable}{left}\n",
+            "{}:{}: block {}: {} placed, {used} of {} bits used, {}{enable}{left}\n",
             plan.name,
             made.line,
             self.blocks,
-            count(made.block.placed.into(), "frame"),
-            made.block.used,
-            made.n
+            count(placed.into(), "frame"),
+            made.n,
+            of_them(zeros.into())
         );
         self.blocks += 1;
         self.bits += made.n;
+        self.used += u64::from(used);
+        self.zeros += u64::from(zeros);
     }
 
     /// The lines with the sums, the enable bits in force behind the last block and, for each circuit whose message is not placed in full, a warning.
     pub fn end(mut self, plan: &Plan, sending: &Sending) -> String {
         let (blocks, bits) = (count(self.blocks, "block"), count(self.bits, "bit"));
-        let enable = sending.enable();
-        self.lines += &format!("{blocks}, {bits}; enable bits in force {enable}");
+        let (used, enable) = (self.used_words(), sending.enable());
+        self.lines += &format!("{blocks}, {bits}{used}; enable bits in force {enable}");
         for (number, circuit) in plan.circuits.iter().enumerate() {
             let left = sending.left(number);
             if left > 0 {
@@ -54,6 +66,34 @@ impl Summary {
             }
         }
         self.lines
+    }
+
+    /// What is used of all blocks, and what stuffing cost of that. Every block uses some bits, so that nothing is said only where there is none.
+    fn used_words(&self) -> String {
+        match (self.used, self.zeros) {
+            (0, _) => String::new(),
+            (used, 0) => format!(", {used} used, {}", of_them(0)),
+            (used, zeros) => {
+                let share = share(zeros, used);
+                format!(", {used} used, {} ({share})", of_them(zeros))
+            }
+        }
+    }
+}
+
+/// How many of the bits used are stuffed zeros.
+fn of_them(zeros: u64) -> String {
+    match zeros {
+        1 => "1 of them a stuffed zero".to_string(),
+        zeros => format!("{zeros} of them stuffed zeros"),
+    }
+}
+
+/// Some of all bits in percent, rounded to a tenth.
+fn share(some: u64, all: u64) -> String {
+    match (1000 * some + all / 2) / all {
+        0 => "less than 0.1 %".to_string(),
+        tenths => format!("{}.{} %", tenths / 10, tenths % 10),
     }
 }
 

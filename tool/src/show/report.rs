@@ -34,7 +34,7 @@ fn circuits(out: &mut impl Write, paint: Paint, words: PictureWords<'_>) -> io::
     Ok(())
 }
 
-/// The other kinds, each with its figure.
+/// The other kinds, each with its figure; stuffed zeros, which no character shows, are part of the frames.
 fn others(out: &mut impl Write, paint: Paint, tally: &Tally) -> io::Result<()> {
     let account = &tally.account;
     for (ink, name, figure) in [
@@ -46,6 +46,7 @@ fn others(out: &mut impl Write, paint: Paint, tally: &Tally) -> io::Result<()> {
         (Ink::Void, "before the first flag", account.before),
         (Ink::Flag, "flags", tally.flags),
         (Ink::Idle, "closing ones", tally.idle),
+        (Ink::Blank, "stuffed zeros", tally.zeros),
     ] {
         writeln!(out, "{}  {name:24}{figure:>12}", symbol(paint, ink))?;
     }

@@ -128,7 +128,7 @@ impl<'a, W: Write> Svg<'a, W> {
             _ => ink.classes(),
         };
         let shown = width.max(2.0);
-        let title = self.words.stretch(stretch);
+        let title = self.words.frame(stretch);
         writeln!(
             self.out,
             r#"<rect class="{class}" x="{x:.2}" y="{BAR}" width="{shown:.2}" height="{HEIGHT}" rx="1"><title>{title}</title></rect>"#
@@ -163,7 +163,7 @@ impl<'a, W: Write> Svg<'a, W> {
             return Ok(());
         };
         let left = x - 4.0;
-        let title = self.words.stretch(stretch);
+        let title = self.words.frame(stretch);
         writeln!(
             self.out,
             r#"<path class="loss" d="M{left:.2} 2h8l-4 8z"><title>{title}</title></path>"#

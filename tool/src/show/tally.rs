@@ -30,6 +30,8 @@ pub struct Tally {
     pub flags: u64,
     /// Closing ones.
     pub idle: u64,
+    /// Stuffed zeros of the frames that pass.
+    pub zeros: u64,
     /// The bit behind the last one.
     pub end: u64,
     /// What stands before the first flag, where it is shown and the recording may begin with it.
@@ -49,6 +51,7 @@ impl Tally {
             account: Account::new(Unit::Bit, circuits),
             flags: 0,
             idle: 0,
+            zeros: 0,
             end: 0,
             before: None,
             places: Vec::new(),
@@ -66,6 +69,7 @@ impl Tally {
             Kind::Flag => self.flags += 1,
             Kind::Body(heard) => {
                 self.account.notice(heard);
+                self.zeros += stretch.zeros().unwrap_or(0);
                 if went_wrong(heard) {
                     self.keep(Place::Body(*stretch));
                 }

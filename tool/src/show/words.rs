@@ -6,6 +6,7 @@ use super::layout::Layout;
 use super::tally::Place;
 use crate::account::{self, gap_words, Unit};
 use crate::extents::{Kind, Stretch};
+use crate::output::count;
 
 /// The circuits by number, and the layout, which words refer to.
 #[derive(Clone, Copy)]
@@ -40,6 +41,15 @@ impl PictureWords<'_> {
                 };
                 format!("{block}{bits}: {words}")
             }
+        }
+    }
+
+    /// The same, and of a frame that passes its stuffed zeros.
+    pub fn frame(&self, stretch: &Stretch) -> String {
+        let words = self.stretch(stretch);
+        match stretch.zeros() {
+            Some(zeros) => format!("{words}; {}", count(zeros, "stuffed zero")),
+            None => words,
         }
     }
 

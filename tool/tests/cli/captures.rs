@@ -98,7 +98,10 @@ fn words_of_silence() {
     let folder = folder("words");
     for (options, channel) in [(&LEFT[..], 0), (&RIGHT, 1)] {
         let told = encode(&folder, options, "plan", "capture");
-        assert!(told.contains("\n3 blocks, 1805 bits; "), "{told}");
+        assert!(
+            told.contains("\n3 blocks, 1805 bits, 1095 used, "),
+            "{told}"
+        );
         let words = words(&folder.read("capture"));
         assert_eq!(words.len(), 2 * 1805);
         let filed = bits(&folder.read("bits"), 1805);

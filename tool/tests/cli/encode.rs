@@ -22,10 +22,10 @@ const BLOCKS: [&str; 3] = [
     "7edf8b07030406a469fcfeffffffffffffffffffffffffffffffffffffffffffffffffffffffffffffffffffffffffffffffffffffffffffffffffffffffffffffffffffffffffffffffff1f",
 ];
 const SUMMARY: &str = "\
-plan:8: block 0: 3 frames placed, 584 of 600 bits used, packets still to go: 1 at 01, 3 at 02:07, 1 at 7E
-plan:9: block 1: 4 frames placed, 430 of 600 bits used, packets still to go: 3 at 02:07
-plan:10: block 2: 0 frames placed, 81 of 605 bits used, enable bits in force 5 (priorities 0 and 2), packets still to go: 3 at 02:07
-3 blocks, 1805 bits; enable bits in force 5 (priorities 0 and 2)
+plan:8: block 0: 3 frames placed, 584 of 600 bits used, 72 of them stuffed zeros, packets still to go: 1 at 01, 3 at 02:07, 1 at 7E
+plan:9: block 1: 4 frames placed, 430 of 600 bits used, 30 of them stuffed zeros, packets still to go: 3 at 02:07
+plan:10: block 2: 0 frames placed, 81 of 605 bits used, 1 of them a stuffed zero, enable bits in force 5 (priorities 0 and 2), packets still to go: 3 at 02:07
+3 blocks, 1805 bits, 1095 used, 103 of them stuffed zeros (9.4 %); enable bits in force 5 (priorities 0 and 2)
 aes18: warning: circuit 1 (02:07): 3 packets still to go: priority 1 is not enabled until another system packet enables it
 ";
 
@@ -83,11 +83,11 @@ fn enable_bits_hold_over() {
     folder.write("without", format!("circuits 01 02\n{others}"));
     let ran = folder.run(&["encode", "plan", "-o", "bits"]);
     let summary = "\
-plan:4: block 0: 1 frame placed, 186 of 304 bits used, enable bits in force 7 (priorities 0, 1 and 2), packets still to go: 1 at 01
-plan:6: block 1: 1 frame placed, 136 of 304 bits used, enable bits in force 7 (priorities 0, 1 and 2), packets still to go: 1 at 01
-plan:7: block 2: 0 frames placed, 8 of 304 bits used, enable bits in force 7 (priorities 0, 1 and 2), packets still to go: 1 at 01
-plan:8: block 3: 1 frame placed, 180 of 304 bits used
-4 blocks, 1216 bits; enable bits in force 15 (all priorities)
+plan:4: block 0: 1 frame placed, 186 of 304 bits used, 2 of them stuffed zeros, enable bits in force 7 (priorities 0, 1 and 2), packets still to go: 1 at 01
+plan:6: block 1: 1 frame placed, 136 of 304 bits used, 0 of them stuffed zeros, enable bits in force 7 (priorities 0, 1 and 2), packets still to go: 1 at 01
+plan:7: block 2: 0 frames placed, 8 of 304 bits used, 0 of them stuffed zeros, enable bits in force 7 (priorities 0, 1 and 2), packets still to go: 1 at 01
+plan:8: block 3: 1 frame placed, 180 of 304 bits used, 4 of them stuffed zeros
+4 blocks, 1216 bits, 510 used, 6 of them stuffed zeros (1.2 %); enable bits in force 15 (all priorities)
 ";
     assert_eq!((ran.status, ran.err.as_str()), (0, summary));
     let told = folder.run(&["decode", "--circuits=01,02", "bits"]).told();
@@ -121,7 +121,7 @@ fn messages_held_back_at_the_end() {
     let others = held("0 (01)", "1 packet", 3) + &held("1 (02)", "1 packet", 1);
     let ran = folder.run(&["encode", "plan", "-o", "bits"]);
     let room = "aes18: warning: circuit 2 (03:07): 2 packets still to go in a later block\n";
-    let sums = "\n1 block, 304 bits; enable bits in force 1 (priority 0)\n";
+    let sums = "\n1 block, 304 bits, 233 used, 1 of them a stuffed zero (0.4 %); enable bits in force 1 (priority 0)\n";
     assert_eq!(ran.status, 0);
     assert!(
         ran.err.ends_with(&format!("{sums}{others}{room}")),
@@ -131,8 +131,8 @@ fn messages_held_back_at_the_end() {
     let ran = folder.run(&["encode", "longer", "-o", "bits"]);
     let last = held("2 (03:07)", "2 packets", 0);
     let sums = "\
-longer:7: block 2: 0 frames placed, 8 of 27000 bits used, enable bits in force 0 (no priority), packets still to go: 1 at 01, 1 at 02, 2 at 03:07
-3 blocks, 27608 bits; enable bits in force 0 (no priority)
+longer:7: block 2: 0 frames placed, 8 of 27000 bits used, 0 of them stuffed zeros, enable bits in force 0 (no priority), packets still to go: 1 at 01, 1 at 02, 2 at 03:07
+3 blocks, 27608 bits, 298 used, 2 of them stuffed zeros (0.7 %); enable bits in force 0 (no priority)
 ";
     assert_eq!(ran.status, 0);
     assert!(

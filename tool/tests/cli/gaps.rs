@@ -902,7 +902,7 @@ fn elsewhere_by_its_address() {
     for address in ["7E", "02:07"] {
         assert!(decoded.contains(&format!(": Elsewhere, {address}\n")));
         assert!(
-            drawn.contains(&format!(": Elsewhere, {address}</title>")),
+            drawn.contains(&format!(": Elsewhere, {address}; ")),
             "{drawn}"
         );
     }

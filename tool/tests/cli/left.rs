@@ -15,11 +15,12 @@ fn told(name: &str, plan: &str) -> String {
     ran.err
 }
 
-/// What the lines of the blocks end with: all behind the bits used.
+/// What the lines of the blocks end with: all behind the stuffed zeros.
 fn behind_blocks(told: &str) -> Vec<&str> {
     let lines = told.lines().filter(|line| line.contains(": block "));
     lines
-        .map(|line| line.split_once(" bits used").unwrap().1)
+        .map(|line| line.split_once(" stuffed zero").unwrap().1)
+        .map(|behind| behind.trim_start_matches('s'))
         .collect()
 }
 

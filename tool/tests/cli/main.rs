@@ -17,3 +17,4 @@ mod signals;
 #[cfg(target_os = "linux")]
 mod terminal;
 mod usage;
+mod zeros;

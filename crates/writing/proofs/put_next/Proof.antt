@@ -7,7 +7,7 @@ use denote.Ref.{now}
 use Rattle.packet.specs.Circuits.{noCircuit}
 use Rattle.offering.specs.Record.{noSlot, slotAt}
 use Rattle.offering.proofs.Ranges.{slotInRange-slotAt}
-use Rattle.writing.proofs.FrameLength.{circuit-lt, length-messageAt, extended-lt, nextFrame-packetAt}
+use Rattle.writing.proofs.FrameLength.{circuit-lt, length-messageAt, extended-lt, nextPacket-packetAt, nextFrame-packetAt}
 use Rattle.writing.proofs.put_next.Statement.{statement}
 use Rattle.writing.proofs.put_next.Tie as tie
 
@@ -58,7 +58,7 @@ returns : tie.Need-returns
 unfolding slotAt noSlot noCircuit
 returns c =
     let put = c .before .before in
-    rw nextFrame-packetAt (rw (put .before .message-at .ensures) at (put .put-packet .ensures))
+    rw nextPacket-packetAt (rw (put .before .message-at .ensures) at (put .put-packet .ensures))
 
 pub put-next-spec : {M : Type 1} → statement M
 put-next-spec =

@@ -27,7 +27,7 @@ pub fn write(out: &mut impl Write, words: PictureWords<'_>, tally: &Tally) -> io
     scale(out, words)
 }
 
-/// Which bits are shown, in which rows.
+/// Which bits are shown, in which rows, and what stuffing cost in them.
 fn extent(out: &mut impl Write, words: PictureWords<'_>, tally: &Tally) -> io::Result<()> {
     let layout = words.layout;
     let (from, to) = (layout.from, tally.end.min(layout.to));
@@ -41,8 +41,8 @@ fn extent(out: &mut impl Write, words: PictureWords<'_>, tally: &Tally) -> io::R
     };
     writeln!(
         out,
-        r#"<text x="{EDGE}" y="50">{bits}, in {unit} of {} bits</text>"#,
-        layout.row
+        r#"<text x="{EDGE}" y="50">{bits}, in {unit} of {} bits; stuffed zeros: {}</text>"#,
+        layout.row, tally.zeros
     )
 }
 

@@ -17,15 +17,16 @@ use Rattle.picking.proofs.PickingLaws.{pick-waits, pick-lt}
 use Rattle.writing.specs.NextFrame.{nextFrame}
 use Rattle.sender.specs.Blocks.{waiting}
 use Rattle.sender.proofs.Filling.{waiting-served}
-use Rattle.sender.proofs.FillTurn.{ToFill, ToFill-start, ToFill-none, ToFill-past, ToFill-room, ToFill-step}
+use Rattle.sender.proofs.FillTurn.{ToFill, ToFill-start, ToFill-none, ToFill-past, ToFill-room, zeros-within, ToFill-step}
 use Rattle.sender.proofs.blocks.fill.Statement.{statement}
 use Rattle.sender.proofs.blocks.fill.Tie as tie
 
 abbrev Inv-loop : tie.InvT-loop
-Inv-loop buf₀ store at enable u s₀ end₀ placed₀ buf s end placed = ToFill buf₀ s₀ store end₀ enable u buf s end placed
+Inv-loop buf₀ store enable u s₀ end₀ placed₀ zeros₀ buf s end placed zeros =
+    ToFill buf₀ s₀ store (record { at = end₀; zeros = zeros₀ }) enable u buf s end placed zeros
 
 abbrev μ-loop : tie.MeasureT-loop
-μ-loop buf₀ store at enable u s₀ end₀ placed₀ buf s end placed = waiting s
+μ-loop buf₀ store enable u s₀ end₀ placed₀ zeros₀ buf s end placed zeros = waiting s
 
 -- the record's array has four slots
 loop-holds : tie.Need-loop-holds Inv-loop μ-loop
@@ -33,7 +34,7 @@ loop-holds c =
     let s = c .before .before in
     let a = s .args in
     let four : length (a .sender .slots) ≡ 4 = rw length-map at (s .good .1 .0 .1 .1 .1 .0 .1 .0 .1) in
-    ToFill-start (now (a .buf)) (a .sender) (now (a .store)) (a .at) (a .enable) (a .u) (s .pre .0) four (s .pre .1 .1 .0)
+    ToFill-start (now (a .buf)) (a .sender) (now (a .store)) _ (a .enable) (a .u) (s .pre .0) four (omega (arith, s .pre .1 .1 .0)) (s .pre .1 .1 .1)
 
 pick-requires : tie.Need-pick-requires Inv-loop μ-loop
 pick-requires c κs = c .loop .inv .range
@@ -56,7 +57,7 @@ fits-requires c κs =
     let l = c .before .before .before .before in
     let s = l .before .before .before in
     let f = pick-waits (l .loop .s) (s .args .enable) (c .before .picked .given .0 .0) (picked c) in
-    (l .loop .inv .range, (f .count, (f .pending, (s .pre .1 .0, (l .loop .inv .within, s .pre .1 .1 .2)))))
+    (l .loop .inv .range, (f .count, (f .pending, (s .pre .1 .0, (l .loop .inv .within, s .pre .1 .1 .3)))))
 
 -- its frame does not pass u
 fitting : (c : tie.Else1 Inv-loop μ-loop) →
@@ -71,11 +72,19 @@ put-next-requires c κs =
     let l = k .before .before .before .before in
     let s = l .before .before .before in
     let f = pick-waits (l .loop .s) (s .args .enable) (k .before .picked .given .0 .0) (picked k) in
-    (l .loop .inv .range, (f .count, (f .pending, (s .pre .1 .0, ToFill-room (l .loop .inv) (picked k) (fitting (c .before)) (s .pre .1 .1 .1) (s .pre .1 .1 .2)))))
+    (l .loop .inv .range, (f .count, (f .pending, (s .pre .1 .0, ToFill-room (l .loop .inv) (picked k) (fitting (c .before)) (s .pre .1 .1 .2) (s .pre .1 .1 .3)))))
+
+add-zeros : tie.Need-add-zeros Inv-loop μ-loop
+add-zeros c =
+    let put = c .before .before .before in
+    let k = put .before .before .before .before in
+    let l = k .before .before .before .before in
+    omega
+    (arith, zeros-within (l .loop .inv) (picked k) (fitting (put .before .before)) (put .put-next .ensures))
 
 serve-requires : tie.Need-serve-requires Inv-loop μ-loop
 serve-requires c κs =
-    let k = c .before .before .before .before .before .before in
+    let k = c .before .before .before .before .before .before .before in
     let l = k .before .before .before .before in
     let enable = l .before .before .before .args .enable in
     let circuit = k .before .picked .given .0 .0 in
@@ -87,12 +96,12 @@ serve-requires c κs =
 
 add-placed : tie.Need-add-placed Inv-loop μ-loop
 add-placed c =
-    let l = c .before .before .before .before .before .before .before .before .before .before .before in
-    omega (arith, l .loop .inv .few, l .loop .inv .within, l .before .before .before .pre .1 .1 .2)
+    let l = c .before .before .before .before .before .before .before .before .before .before .before .before in
+    omega (arith, l .loop .inv .few, l .loop .inv .within, l .before .before .before .pre .1 .1 .3)
 
 loop-less : tie.Need-loop-less Inv-loop μ-loop
 loop-less c =
-    let k = c .before .before .before .before .before .before .before in
+    let k = c .before .before .before .before .before .before .before .before in
     let l = k .before .before .before .before in
     let inv = l .loop .inv in
     rw (c .serve .ensures)
@@ -101,7 +110,7 @@ loop-less c =
 
 loop-again : tie.Need-loop-again Inv-loop μ-loop
 loop-again c =
-    let put = c .before .before .before in
+    let put = c .before .before .before .before in
     let k = put .before .before .before .before in
     let l = k .before .before .before .before in
     rw (c .serve .ensures)
@@ -143,6 +152,7 @@ fill-spec =
     enum-told
     fits-requires
     put-next-requires
+    add-zeros
     serve-requires
     add-placed
     loop-less

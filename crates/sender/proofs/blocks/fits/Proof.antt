@@ -4,7 +4,7 @@ use denote.Ref.{now}
 use native.Mathlib.Omega.{arith}
 use native.Mathlib.Nat.{zero-add}
 use mathlib.Core.Path.{refl, _∙_}
-use Rattle.sender.proofs.FillTurn.{fits-longest, nextFrame-room, nextFrame-small}
+use Rattle.sender.proofs.FillTurn.{nextFrame-end, fits-longest, nextFrame-room, nextFrame-small}
 use Rattle.sender.proofs.blocks.fits.Statement.{statement}
 use Rattle.sender.proofs.blocks.fits.Tie as tie
 
@@ -30,17 +30,20 @@ put-next-requires c κs =
 
 add-result : tie.Need-add-result
 add-result c =
-    let s = c .before .before .before .before .before in
+    let s = c .before .before .before .before .before .before in
     let a = s .args in
     let p = s .pre in
     record {
       fits =
           nextFrame-small (a .sender) (now (a .store)) (a .circuit) (p .0) (p .1 .0) (p .1 .1 .1 .0) (p .1 .1 .0) (a .at)
-          (c .before .put-next .result) (omega (arith, p .1 .1 .1 .1)) (c .before .put-next .ensures .behind);
+          (c .before .before .put-next .result .at) (omega (arith, p .1 .1 .1 .1))
+          (nextFrame-end (a .sender) (now (a .store)) (a .circuit) (c .before .before .put-next .ensures));
     }
 
 returns-2 : tie.Need-returns-2
-returns-2 c = rw (c .before .put-next .ensures .behind ∙ zero-add _)
+returns-2 c =
+    let a = c .before .before .before .before .before .before .args in
+    rw (nextFrame-end (a .sender) (now (a .store)) (a .circuit) (c .before .before .put-next .ensures) ∙ zero-add _)
 
 pub fits-spec : {M : Type 1} → statement M
 fits-spec = tie.close (tie.spec add-if1 returns slice-aggregate-put-next put-next-requires add-result returns-2)

@@ -5,7 +5,7 @@ use borrow.Author.Tests.{not-true, not-false}
 use denote.Ref.{now}
 use Rattle.hdlc.proofs.Ending.{length-flag}
 use Rattle.sender.specs.BlockCalls.{system}
-use Rattle.sender.proofs.OpeningBits.{Room-system, Written-flag-alone, Written-opening}
+use Rattle.sender.proofs.OpeningBits.{Room-system, OpeningWritten-flag, OpeningWritten-system}
 use Rattle.sender.proofs.blocks.put_opening.Statement.{statement}
 use Rattle.sender.proofs.blocks.put_opening.Tie as tie
 
@@ -19,7 +19,7 @@ returns : tie.Need-returns
 returns c =
     let flag = c .before .before .before in
     let a = flag .before .before .before .before .args in
-    Written-flag-alone (system (a .wanted) (a .enable) (a .code) (now (a .information))) (not-true _ (c .if1 .taken)) (flag .put-flag .ensures)
+    OpeningWritten-flag (system (a .wanted) (a .enable) (a .code) (now (a .information))) (not-true _ (c .if1 .taken)) (flag .put-flag .ensures)
 
 put-system-requires : tie.Need-put-system-requires
 put-system-requires c κs =
@@ -41,7 +41,7 @@ returns-2 c =
     let wanted = end .before .before in
     let flag = wanted .before .before .before in
     let a = flag .before .before .before .before .args in
-    Written-opening (system (a .wanted) (a .enable) (a .code) (now (a .information))) (not-false _ (wanted .if1 .left)) (flag .put-flag .ensures)
+    OpeningWritten-system (system (a .wanted) (a .enable) (a .code) (now (a .information))) (not-false _ (wanted .if1 .left)) (flag .put-flag .ensures)
     (end .put-system .ensures)
 
 pub put-opening-spec : {M : Type 1} → statement M

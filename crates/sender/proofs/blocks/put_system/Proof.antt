@@ -1,9 +1,11 @@
--- `sender::blocks::put_system` meets its contract: the packet is three bytes of a number, and the information.
+-- `sender::blocks::put_system` meets its contract: the packet is three bytes of a number, and the information, and what its frame and flag have beyond eight
+-- bits for each byte was added.
 use native.Mathlib.Omega.{arith}
 use mathlib.Core.Path.{_≡_}
 use borrow.Author.Needs.{needs}
 use denote.Ref.{now}
 use Rattle.hdlc.specs.Leads.{led}
+use Rattle.hdlc.proofs.AddedZeros.{led-within, FrameWritten-led}
 use Rattle.packet.specs.Packets.{systemPacket}
 use Rattle.sender.proofs.OpeningBits.{led-system}
 use Rattle.sender.proofs.blocks.put_system.Statement.{statement}
@@ -43,13 +45,21 @@ write-led-requires c κs =
     let number = c .before in
     (omega arith, rw (whole number) (number .before .before .before .before .before .pre .1))
 
+add-of : tie.Need-add-of
+add-of c = search needs
+
+of-requires : tie.Need-of-requires
+of-requires c κs =
+    let write = c .before .before in
+    led-within _ 3 _ (whole (write .before .before)) (write .write-led .ensures)
+
 same-length : tie.Need-same-length
 same-length c = search needs
 
 returns : tie.Need-returns
 returns c =
-    let write = c .before .before in
-    rw (whole (write .before .before)) at (write .write-led .ensures)
+    let write = c .before .before .before in
+    FrameWritten-led _ 3 _ (whole (write .before .before)) (write .write-led .ensures) (c .of .ensures)
 
 pub put-system-spec : {M : Type 1} → statement M
 put-system-spec =
@@ -63,5 +73,7 @@ put-system-spec =
     below-requires-2
     below-requires-3
     write-led-requires
+    add-of
+    of-requires
     same-length
     returns)
