@@ -161,6 +161,16 @@ fn offer(
     after
 }
 
+// The numbers of a block's answer.
+fn print_answer(placed: usize, used: usize, zeros: usize) {
+    print(b"placed ");
+    print_number(placed);
+    print(b" used ");
+    print_number(used);
+    print(b" zeros ");
+    print_number(zeros);
+}
+
 // A block call into 80 bytes AA hex, its answer, what is left, and the bytes then.
 fn block(
     sender: Sender,
@@ -192,12 +202,7 @@ fn block(
             used,
             zeros,
         } => {
-            print(b"placed ");
-            print_number(placed);
-            print(b" used ");
-            print_number(used);
-            print(b" zeros ");
-            print_number(zeros);
+            print_answer(placed, used, zeros);
             print_left(after);
             print(b" ");
             print_bytes(&buffer);
