@@ -1,9 +1,8 @@
--- The laws of `bits`: stretches written into lists, the bits of bytes, one bit of a byte or of a buffer, the type of a bit reader, the bits that a bit writer holds,
+-- The laws of `bits`: stretches written into lists, the bits of bytes, one bit of a byte or of a buffer, the bits that a bit writer holds,
 -- and tests that are computed at every number below a bound.
 pub mod Lists
 pub mod Bits
 pub mod BitInByte
-pub mod BitReaders
 pub mod Tests
 pub mod Each
 pub mod Computed

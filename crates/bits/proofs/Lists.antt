@@ -1,4 +1,4 @@
--- Laws of lists: a stretch written over a list (`sets` of lib.Seq), lists that are filled up with one element, and lists joined.
+-- Laws of lists: a stretch written over a list (the kit's `sets`), lists that are filled up with one element, and lists joined.
 use mathlib.Core.Path.{◌≡◌, refl, sym, ap, ◌∙◌}
 use Prim.Native.Nat.{ℕ, zero, suc, ◌+◌, ◌-◌, ◌≤◌, ◌<◌}
 use native.Mathlib.Nat.{add-zero, zero-add, add-suc, suc-add, sub-zero, zero-sub, suc-sub-suc}

@@ -31,9 +31,9 @@ pub or_then : (a b : Bool) → a ≡ true → (not a || b) ≡ true → b ≡ tr
 or_then true b h t = t
 or_then false b h t = cc
 
-pub or_else : (a b : Bool) → a ≡ false → (a || b) ≡ true → b ≡ true
-or_else true b h t = cc
-or_else false b h t = t
+pub or_else_lem : (a b : Bool) → a ≡ false → (a || b) ≡ true → b ≡ true
+or_else_lem true b h t = cc
+or_else_lem false b h t = t
 
 pub not-false : (b : Bool) → not b ≡ false → b ≡ true
 not-false true e = refl

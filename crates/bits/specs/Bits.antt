@@ -1,6 +1,6 @@
 -- User bits in bytes: "Bit A0 of a byte is its lowest and is sent first", and "Bits fill bytes lowest first; spare bits of the
 -- last byte are 0" (document 01, "Covered here" and "Blocks"). A bit is a Bool, a buffer the list of its bytes.
--- A stretch of bits written over a buffer's bits, from bit `at` on, is `sets bits at stretch` of the kit's `lib.Seq`:
+-- A stretch of bits written over a buffer's bits, from bit `at` on, is `sets bits at stretch` of the kit's lists:
 -- each bit of the stretch is set in turn, and every other bit keeps its value.
 use Rattle.std.specs.Prelude.{ℕ, zero, suc, ◌+◌, ◌*◌, ◌/◌, ◌%◌, ◌<◌, Bool, true, false, List, [], ◌∷◌, ◌++◌, length, take, drop, eqb}
 

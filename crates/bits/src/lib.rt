@@ -2,6 +2,8 @@
 //
 // A contract says what all bits of the buffer are afterwards; since a list of bytes is determined by its bits
 // (`bits_of_injective` in proofs/Bits.antt), it determines every byte.
+#![tactic(auto)]
+
 ghost use Rattle.std.specs.Prelude.{◌≡◌, ◌+◌, ◌*◌, ◌^◌, ◌≤◌, ◌<◌, false, length, get_or, set, replicate, ltb};
 ghost use Rattle.std.proofs.lemmas.List.Edits.{sets};
 ghost use Rattle.bits.specs.Bits.{byte_bits, bits_of};

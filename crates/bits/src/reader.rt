@@ -5,7 +5,7 @@ ghost use Rattle.bits.specs.Bits.{bits_of};
 use crate::get_bit;
 
 // The lent bytes, and the next bit's number.
-#[derive(Drop)]
+#[derive(Clone, Copy)]
 pub struct BitReader<'a> {
     pub bytes: &'a [u8],
     pub at: usize,
@@ -28,7 +28,7 @@ impl<'a> BitReader<'a> {
     }
 }
 
-// Bit `at` of lent bytes, through a reader. Its contract says nothing of a reader, so whoever calls it needs no walk by hand.
+// Bit `at` of lent bytes, through a reader. Its contract says nothing of a reader.
 pub fn bit_at(bytes: &[u8], at: usize) -> bool
     requires { at < 8 * length bytes.now }
     ensures { result ≡ get_or (bits_of bytes.now) at false }

@@ -7,7 +7,7 @@ ghost use Rattle.bits.specs.Writer.{PartHeld, next_bit, with_held};
 use crate::power;
 
 // The number of the byte to be filled, how many of its lowest bits are held, and these.
-#[derive(Drop)]
+#[derive(Clone, Copy)]
 pub struct BitWriter {
     pub byte: usize,
     pub count: usize,
