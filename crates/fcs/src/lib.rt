@@ -1,4 +1,6 @@
 // HDLC's 16-bit frame check sequence, by bytes and without any framing of its own.
+#![tactic(auto)]
+
 ghost use Rattle.std.specs.Prelude.{◌++◌, ◌≡◌};
 ghost use Rattle.bits.specs.Bits.{byte_bits, bits_of};
 ghost use Rattle.fcs.specs.Fcs.{fcs_run, fcs_of};
