@@ -11,7 +11,7 @@ use borrow.Author.Tests.{eqb-true, leb-true, ltb-true, eq-eqb, ne_eqb}
 use Rattle.bits.specs.Bits.{odd, low_bits, byte_bits, bit_value, number_of}
 use Rattle.bits.proofs.Fields.{number_of-fits, low_bits-of}
 use Rattle.bits.proofs.Computed.{all_below, each_below}
-use Rattle.bits.proofs.Tests.{and_left, and_right, or_then, or_else}
+use Rattle.bits.proofs.Tests.{and_left, and_right, or_then, or_else_lem}
 use Rattle.hdlc.specs.Stuffing.{stuff_from, free_after}
 use Rattle.hdlc.specs.Chunks.{five_ones, StuffedByte}
 
@@ -119,15 +119,15 @@ module _ (f b : ℕ) (few : f ≤ 4) (byte : b < 256) where
   unfolding none_right
   shifted_pos = leb-true _ _ (and_left _ _ (at_byte none_right none_computed))
 
-  pub none_right : first f b ≡ 0 → Right f b b 8
+  pub none_right_lem : first f b ≡ 0 → Right f b b 8
   unfolding none_right
-  none_right e =
+  none_right_lem e =
       right_at f b b 8 (or_then (eqb (first f b) 0) _ (eq-eqb _ _ e) (and_right (leb 1 (shifted f b)) _ (at_byte none_right none_computed)))
 
   module _ (some : first f b ≡ 0 → ⊥) where
     one_tests : (leb (first_zero f b) 8 && ltb (one f b) 512 && (not (eqb (second f b) 0) || right f b (one f b) 9)) ≡ true
     unfolding one_right
-    one_tests = or_else (eqb (first f b) 0) _ (ne_eqb _ _ some) (at_byte one_right one_computed)
+    one_tests = or_else_lem (eqb (first f b) 0) _ (ne_eqb _ _ some) (at_byte one_right one_computed)
 
     pub first_zero_le : first_zero f b ≤ 8
     first_zero_le = leb-true _ _ (and_left _ _ (and_left _ _ one_tests))
@@ -135,8 +135,8 @@ module _ (f b : ℕ) (few : f ≤ 4) (byte : b < 256) where
     pub one_lt : one f b < 512
     one_lt = ltb-true _ _ (and_right (leb (first_zero f b) 8) _ (and_left _ _ one_tests))
 
-    pub one_right : second f b ≡ 0 → Right f b (one f b) 9
-    one_right e =
+    pub one_right_lem : second f b ≡ 0 → Right f b (one f b) 9
+    one_right_lem e =
         right_at f b (one f b) 9
         (or_then (eqb (second f b) 0) _ (eq-eqb _ _ e) (and_right (leb (first_zero f b) 8 && ltb (one f b) 512) _ one_tests))
 
@@ -144,7 +144,7 @@ module _ (f b : ℕ) (few : f ≤ 4) (byte : b < 256) where
       two_tests : (leb (second_zero f b) 9 && right f b (two f b) 10) ≡ true
       unfolding two_right
       two_tests =
-          or_else (eqb (second f b) 0) _ (ne_eqb _ _ more) (or_else (eqb (first f b) 0) _ (ne_eqb _ _ some) (at_byte two_right two_computed))
+          or_else_lem (eqb (second f b) 0) _ (ne_eqb _ _ more) (or_else_lem (eqb (first f b) 0) _ (ne_eqb _ _ some) (at_byte two_right two_computed))
 
       pub second_zero_le : second_zero f b ≤ 9
       second_zero_le = leb-true _ _ (and_left _ _ two_tests)

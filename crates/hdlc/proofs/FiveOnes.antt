@@ -169,9 +169,9 @@ no_zero (suc n) (suc f) w h e =
 
 -- ---- two bytes
 
-pub two_bytes : (low high : ℕ) → low < 256 → low_bits 16 (low + 256 * high) ≡ byte_bits low ++ byte_bits high
+pub two_bytes_lem : (low high : ℕ) → low < 256 → low_bits 16 (low + 256 * high) ≡ byte_bits low ++ byte_bits high
 unfolding byte_bits
-two_bytes low high h =
+two_bytes_lem low high h =
     let a : low + 256 * high ≡ low + high * 2 ^ 8 = omega arith in
     ap (low_bits 16) a ∙ low_bits_split 8 8 low high h
 
@@ -191,4 +191,4 @@ two_plain f low high few h l e =
     let p : 1 ≤ 2 ^ (4 - f) = pow_pos (4 - f) in
     let a : n * 2 ^ (4 - f) + 2 ^ (4 - f) - 1 ≡ behind_ones (4 - f) n = omega arith in
     let b = shifted n (4 - f) (omega arith) (omega arith) in
-    rw (two_bytes low high h) at (no_zero 16 f n few (ap five_ones (sym a ∙ ap (λ (m : ℕ). m - 1) (sym b)) ∙ e))
+    rw (two_bytes_lem low high h) at (no_zero 16 f n few (ap five_ones (sym a ∙ ap (λ (m : ℕ). m - 1) (sym b)) ∙ e))

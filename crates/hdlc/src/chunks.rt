@@ -5,7 +5,7 @@ ghost use Rattle.hdlc.specs.Chunks.{five_ones, StuffedByte};
 ghost use Rattle.hdlc.specs.Stuffing.{stuff_from, free_after};
 
 // Stuffed bits, lowest first, and how many they are.
-#[derive(Drop)]
+#[derive(Clone, Copy)]
 pub struct Chunk {
     pub value: u32,
     pub len: usize,

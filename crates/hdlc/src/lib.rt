@@ -1,4 +1,6 @@
 // Writing HDLC frames into a lent buffer: bits are stuffed as the bytes are known, and no packet or FCS is kept.
+#![tactic(auto)]
+
 ghost use Rattle.std.specs.Prelude.{◌≡◌, [], ◌∷◌, ◌++◌, ◌≤◌};
 ghost use Rattle.bits.specs.Bits.{byte_bits, bits_of};
 ghost use Rattle.hdlc.specs.Stuffing.{stuff_from};
@@ -16,7 +18,7 @@ use chunks::Chunk;
 use zeros::Framed;
 
 // Where the next bit of a frame goes, how many ones may come before the one behind which a 0 is stuffed, and the FCS register.
-#[derive(Drop)]
+#[derive(Clone, Copy)]
 pub struct Pen {
     pub at: usize,
     pub free: u8,

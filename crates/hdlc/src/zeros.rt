@@ -3,7 +3,7 @@ ghost use Rattle.std.specs.Prelude.{◌≡◌, ◌+◌, ◌-◌, ◌*◌, ◌≤
 ghost use Rattle.hdlc.specs.AddedZeros.{AddedZeros};
 
 // What flags and frames that are written come to: the bit behind them, and how many zeros stuffing added.
-#[derive(Drop)]
+#[derive(Clone, Copy)]
 pub struct Framed {
     pub at: usize,
     pub zeros: usize,
