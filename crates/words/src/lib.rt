@@ -1,4 +1,6 @@
 // Lent bits 56 at a time, from any bit on, as a number; and runs of ones among them.
+#![tactic(auto)]
+
 ghost use Rattle.std.specs.Prelude.{◌≡◌, ◌+◌, ◌-◌, ◌*◌, ◌%◌, ◌^◌, ◌≤◌, ◌<◌, length, take, drop};
 ghost use Rattle.std.specs.Int.Count.{count_leading_zeros};
 ghost use Rattle.bits.specs.Bits.{low_bits, bits_of};
@@ -8,7 +10,7 @@ ghost use Rattle.words.specs.Runs.{until_five};
 pub mod gathering;
 
 // Bits gathered: how many whole bytes there are of them, how many bits more, and these as a number.
-#[derive(Drop)]
+#[derive(Clone, Copy)]
 pub struct Gathered {
     pub bytes: usize,
     pub len: usize,
