@@ -1,4 +1,6 @@
 // Circuits, messages and packets as bytes.
+#![tactic(auto)]
+
 ghost use Rattle.std.specs.Prelude.{◌≡◌, ◌*◌, ◌≤◌, ◌<◌, min, length, get_or};
 ghost use Rattle.packet.specs.Answers.{answer_of};
 ghost use Rattle.packet.specs.Messages.{longest, header, part_of, packets, link_of};
@@ -12,7 +14,7 @@ pub const REGION: usize = 4096;
 pub const LONGEST_MESSAGE: usize = 4094;
 
 // A circuit: an address byte, with an extension byte where `extended` is 1.
-#[derive(Drop)]
+#[derive(Clone, Copy)]
 pub struct Circuit {
     pub address: u8,
     pub extended: u8,
@@ -20,14 +22,14 @@ pub struct Circuit {
 }
 
 // One to four circuits, numbered from 0, or none.
-#[derive(Drop)]
+#[derive(Clone, Copy)]
 pub struct Circuits {
     pub count: u8,
     pub list: [Circuit; 4],
 }
 
 // What a circuit may be judged by: the conditions of refusals 2, 3 and 4.
-#[derive(Drop)]
+#[derive(Clone, Copy)]
 enum Rule {
     AddressFF,
     WrongExtension,
@@ -35,21 +37,21 @@ enum Rule {
 }
 
 // What listing answers: the refusal's number, 0 if the list is accepted, and the record.
-#[derive(Drop)]
+#[derive(Clone, Copy)]
 pub struct Listing {
     pub refusal: u8,
     pub circuits: Circuits,
 }
 
 // The number of a circuit that was sought, if there is one.
-#[derive(Drop)]
+#[derive(Clone, Copy)]
 pub enum Found {
     At(usize),
     Nowhere,
 }
 
 // A part of a message: `len` bytes from byte `from` on.
-#[derive(Drop)]
+#[derive(Clone, Copy)]
 pub struct Part {
     pub from: usize,
     pub len: usize,
@@ -153,7 +155,7 @@ pub fn control(link: u8, extended: u8, index: u8, priority: u8) -> u8
 }
 
 // The answer of a call that has nothing else to tell: accepted, or refused with document 01's number.
-#[derive(Drop)]
+#[derive(Clone, Copy)]
 pub enum Answer {
     Accepted,
     Refused(u8),
