@@ -1,4 +1,5 @@
 // A packet that passed, taken apart.
+#![tactic(auto)]
 
 pub mod headers;
 pub mod packets;
