@@ -2,7 +2,7 @@
 -- next packet; `priority`, `repetition` and `length` are its last message's; `place` counts the packets of it of which every copy is
 -- placed, `copy` the copies placed of the packet behind those, and `left` the "packets still to go", "of which some copy is still to place" (document
 -- 02, ask 5). `last` is the number of the circuit last served, and `enable` has the enable bits in force (document 02, ask 4).
-use Rattle.std.specs.Prelude.{ℕ, zero, suc, ◌-◌, ◌*◌, Bool, true, false, not, ◌&&◌, List, [], ◌∷◌, ◌≡◌, length, take, drop, get_or, replicate, leb, ltb, eqb}
+use Rattle.std.specs.Prelude.{ℕ, zero, suc, ◌-◌, ◌*◌, Bool, true, false, not, ◌&&◌, List, [], ◌∷◌, ◌≡◌, take, drop, get_or, replicate, leb, ltb, eqb}
 use Rattle.packet.specs.declared.Circuits.{Circuits}
 use Rattle.packet.specs.Circuits.{circuits_refusal, listed}
 use Rattle.packet.specs.Messages.{longest, packets}

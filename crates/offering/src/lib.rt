@@ -1,4 +1,6 @@
 // The sender's record: a sender is listed, and a message is offered at a circuit.
+#![tactic(auto)]
+
 ghost use Rattle.std.specs.Prelude.{◌≡◌, ◌≤◌, ◌<◌, length};
 ghost use Rattle.packet.specs.Answers.{answer_of};
 ghost use Rattle.packet.specs.Circuits.{list_refusal, listing};
@@ -12,7 +14,7 @@ use packet::{Answer, Circuits};
 use slots::{offered_slot, pending};
 
 // What a circuit has to send (specs/Record.antt has the meaning of each field).
-#[derive(Drop)]
+#[derive(Clone, Copy)]
 pub struct Slot {
     pub index: u8,
     pub priority: u8,
@@ -24,7 +26,7 @@ pub struct Slot {
 }
 
 // A sender's record.
-#[derive(Drop)]
+#[derive(Clone, Copy)]
 pub struct Sender {
     pub circuits: Circuits,
     pub slots: [Slot; 4],
@@ -33,14 +35,14 @@ pub struct Sender {
 }
 
 // What listing a sender answers.
-#[derive(Drop)]
+#[derive(Clone, Copy)]
 pub struct Listed {
     pub answer: Answer,
     pub sender: Sender,
 }
 
 // What offering a message answers.
-#[derive(Drop)]
+#[derive(Clone, Copy)]
 pub struct Offered {
     pub answer: Answer,
     pub sender: Sender,
