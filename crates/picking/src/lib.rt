@@ -1,9 +1,10 @@
 // Which circuit's frame is next.
+#![tactic(auto)]
 
 pub mod rule;
 
 // The circuit whose frame is next, if any waits.
-#[derive(Drop)]
+#[derive(Clone, Copy)]
 pub enum Pick {
     Circuit(usize),
     Nobody,
