@@ -1,5 +1,7 @@
 // The frame of the first copy waiting at a circuit, written. No packet is kept in an array: what stands before the message's bytes is a number,
 // and each byte is stuffed from there or from the store.
+#![tactic(auto)]
+
 ghost use Rattle.std.specs.Prelude.{◌≡◌, true, [], ◌++◌, ◌≤◌, ◌<◌, length};
 ghost use Rattle.hdlc.specs.Frames.{flag, frame};
 ghost use Rattle.hdlc.specs.Leads.{led};
@@ -14,7 +16,7 @@ use offering::{Sender, Slot};
 use packet::{Circuit, Part};
 
 // Bytes that stand in a number, the first one lowest, and how many they are.
-#[derive(Drop)]
+#[derive(Clone, Copy)]
 struct Lead {
     bytes: u64,
     len: usize,
