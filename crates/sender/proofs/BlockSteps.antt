@@ -133,7 +133,7 @@ module _ (s : Sender) (store old : List ℕ) (n u : ℕ) (y : System) where
               placed = filling.placed;
               used = end;
               zeros = zeros_all s store u (system_packets y) (enable_bits y) opened frames;
-              buffer = rw h (Closed-block_buffer old used n (omega (arith, used_le, known)) known.buffer-long written closed ho hn);
+              buffer = rw h (Closed-block_buffer old used n (omega (arith, used_le, known)) known.buffer_long written closed ho hn);
             }
 
     -- what the call returns then

@@ -23,7 +23,7 @@ module _ (s : Sender) (store buffer : List ℕ) (n u : ℕ) (y : System) (e : bl
   unfolding enable_bits in_force
   in_force_at_most_15 =
       let a : Accepted s store buffer n u y = accepted s store buffer n u y e in
-      go y.wanted a.allowed (in_range_facts s a.record-in-range).enable
+      go y.wanted a.allowed (in_range_facts s a.record_in_range).enable
     where
       go : (w : Bool) → (w ≡ true → Allowed y.enable y.code y.information) → s.enable ≤ 15
           → in_force s.enable (cond w (some y.enable) none) ≤ 15
@@ -31,4 +31,4 @@ module _ (s : Sender) (store buffer : List ℕ) (n u : ℕ) (y : System) (e : bl
       go false allowed few = few
 
   pub accepted-ruled_in_range : in_range (ruled s (enable_bits y)) ≡ true
-  accepted-ruled_in_range = in_range-ruled s (enable_bits y) (accepted s store buffer n u y e).record-in-range in_force_at_most_15
+  accepted-ruled_in_range = in_range-ruled s (enable_bits y) (accepted s store buffer n u y e).record_in_range in_force_at_most_15

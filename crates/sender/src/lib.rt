@@ -1,11 +1,12 @@
 // Block making. The sender's record, listing and offering stand in the crate `offering`.
+#![tactic(auto)]
 
 pub mod blocks;
 
 use offering::Sender;
 
 // What filling a block leaves: the record, the bit behind the frames, how many there are, and the zeros that stuffing added in the block up to there.
-#[derive(Drop)]
+#[derive(Clone, Copy)]
 pub struct Fill {
     pub sender: Sender,
     pub at: usize,
@@ -14,7 +15,7 @@ pub struct Fill {
 }
 
 // The answer to a block call: the frames placed, the bits used and the zeros that stuffing added among them, or the refusal's number.
-#[derive(Drop)]
+#[derive(Clone, Copy)]
 pub enum Made {
     Block {
         placed: usize,
@@ -25,7 +26,7 @@ pub enum Made {
 }
 
 // What making a block returns.
-#[derive(Drop)]
+#[derive(Clone, Copy)]
 pub struct Making {
     pub made: Made,
     pub sender: Sender,

@@ -1,0 +1,12 @@
+-- `sender::blocks::fill` meets its contract. The loop's invariant: to fill what is left from here is to fill all from the start. The measure is
+-- the copies that wait.
+use Rattle.sender.specs.Blocks.{waiting}
+use Rattle.sender.proofs.FillTurn.{ToFill}
+use Rattle.sender.proofs.blocks.fill.Given as goal
+
+abbrev pub invariant-loop-circuit : goal.invariant-loop-circuit
+invariant-loop-circuit l =
+    ToFill l.initial.buf l.initial.s l.store (record { at = l.initial.end; zeros = l.initial.zeros }) l.enable l.u l.buf l.s l.end l.placed l.zeros
+
+abbrev pub decreases-loop-circuit : goal.decreases-loop-circuit
+decreases-loop-circuit l = waiting l.s

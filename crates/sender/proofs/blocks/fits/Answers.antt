@@ -1,0 +1,41 @@
+-- `sender::blocks::fits` meets its contract: where 209 bits are left every frame fits, and elsewhere the frame is written and ends at its length.
+use native.Mathlib.Omega.{arith}
+use native.Mathlib.Nat.{zero-add}
+use mathlib.Core.Path.{refl, ◌∙◌}
+use Rattle.sender.proofs.FillTurn.{next_frame_end, fits-longest, next_frame_room, next_frame_small}
+use Rattle.sender.proofs.blocks.fits.Goals as goal
+
+pub returns-then-at-u : goal.returns-then-at-u
+returns-then-at-u c =
+    let a = c.args in
+    let p = c.requires in
+    fits-longest a.sender a.store.now a.circuit p.sender_value p.circuit_lt_count p.store_length_in_bounds p.circuit_value a.at a.u c.if-at-u.true
+
+pub put_next-measured-requires : goal.put_next-measured-requires
+put_next-measured-requires c =
+    let a = c.args in
+    let p = c.requires in
+    record {
+      sender_value = p.sender_value;
+      circuit_lt_count = p.circuit_lt_count;
+      circuit_value = p.circuit_value;
+      store_length_in_bounds = p.store_length_in_bounds;
+      room =
+          next_frame_room a.sender a.store.now a.circuit p.sender_value p.circuit_lt_count p.store_length_in_bounds p.circuit_value _ refl;
+    }
+
+pub overflow_add-result : goal.overflow_add-result
+overflow_add-result c =
+    let a = c.args in
+    let p = c.requires in
+    record {
+      fits =
+          next_frame_small a.sender a.store.now a.circuit p.sender_value p.circuit_lt_count p.store_length_in_bounds p.circuit_value a.at
+          c.put_next-measured.result.at (omega (arith, p.at_le_u))
+          (next_frame_end a.sender a.store.now a.circuit c.put_next-measured.ensures);
+    }
+
+pub returns : goal.returns
+returns c =
+    let a = c.args in
+    rw (next_frame_end a.sender a.store.now a.circuit c.put_next-measured.ensures ∙ zero-add _)
