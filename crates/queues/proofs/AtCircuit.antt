@@ -195,12 +195,12 @@ module _ (k : Circuit) where
             λ later h.
             rw (messages_at_append k ms ms', append_assoc (messages_at k ms) (messages_at k ms') later)
             (now.counted (messages_at k ms' ++ later) (then.counted later h));
-        circuits_stay = then.circuits-stay ∙ now.circuits-stay;
+        circuits_stay = then.circuits_stay ∙ now.circuits_stay;
       }
 
   apart_after : (q : Queues) (ms : List Message) (ps : List Placed) (r : Queues) → AtCircuit q ms ps r → Apart q → Apart r
   unfolding Apart
-  apart_after q ms ps r a apart = rw a.circuits-stay apart
+  apart_after q ms ps r a apart = rw a.circuits_stay apart
 
   -- serving number d takes the first copy of its circuit, and no other's
   at_serve : (q : Queues) (d : ℕ) (x : Copy) (xs : List Copy) → Apart q → (queue_at q d).copies ≡ x ∷ xs

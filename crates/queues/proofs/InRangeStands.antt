@@ -15,7 +15,7 @@ use Rattle.offering.specs.declared.Sender.{Sender}
 use Rattle.offering.specs.Record.{store_length, slot_at, message_at, in_range}
 use Rattle.offering.proofs.Ranges.{in_range_facts, slot_in_range_facts, slot_in_range-slot_at}
 use Rattle.queues.specs.Queues.{Queue, fresh_queue, queue_at, copies_from}
-use Rattle.queues.specs.Stands.{StandsFor, Stands, InRangeStands}
+use Rattle.queues.specs.Stands.{StandsFor, InRangeStands}
 use Rattle.queues.proofs.Numbers.{numbers_from, length_numbers_from, get_or_numbers_from}
 
 module _ (s : Sender) (store : List ℕ) where

@@ -69,7 +69,7 @@ module _ (s : Sender) (store : List ℕ) (q : Queues) (h : Stands s store q) whe
   unfolding pick_from pick_queue_from
   pick_from-pick_queue_from enable [] = refl
   pick_from-pick_queue_from enable (p ∷ ps) =
-      rw (first_waiting-first_queue p (going_round s.last), pick_from-pick_queue_from enable ps, h.last)
+      rw (first_waiting-first_queue p (going_round s.last), pick_from-pick_queue_from enable ps, ← h.last)
 
   -- both sides pick the same circuit
   pub stands_pick : (enable : ℕ) → pick s enable ≡ pick_queue q enable

@@ -1,5 +1,7 @@
 // What the sender's calls mean, as queues of waiting copies: no code, only definitions, theorems, and six functions that carry those of document 02,
 // asks 4 to 6.
+#![tactic(auto)]
+
 ghost use Rattle.queues.specs.AddedZeros.{ZerosCounted};
 ghost use Rattle.queues.specs.EnableBits.{EnableInForce, PlacedEnabled};
 ghost use Rattle.queues.specs.PacketsLeft.{LeftCounts, LeftStands};
