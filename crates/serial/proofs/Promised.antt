@@ -16,8 +16,8 @@ use Rattle.serial.specs.Machine.{fresh, packets_read}
 use Rattle.serial.specs.SerialLine.{SerialLine, calls_over, worst_packet}
 use Rattle.serial.proofs.Pieces.{packets_in_resync, packets_in_skipped, packets_in-frame}
 use Rattle.serial.proofs.Unescaping.{has_flag_append, unescapes, unescaped-escape}
-use Rattle.serial.proofs.ReadBack.{two-flags, read_back, writes_read, length-line_frame}
-use Rattle.serial.proofs.ReadCalls.{all_read, first_read, any-record, reads_declared, cuts_declared}
+use Rattle.serial.proofs.ReadBack.{two-flags, read_back_lem, writes_read, length-line_frame}
+use Rattle.serial.proofs.ReadCalls.{all_read_lem, first_read_lem, any-record, reads_declared, cuts_declared}
 
 -- ---- frames that are dropped, and those that are not
 
@@ -34,9 +34,9 @@ module _ (xs bytes : List ℕ) (none : has_flag xs ≡ false) (is : unescaped xs
   unfolding passing
   outside-length e = frame-given ∙ rw (e, and-false (fcs_right bytes))
 
-  no_other : fcs_right bytes ≡ true → fits (packet bytes) ≡ true → packets_in (flag ∷ xs ++ flag ∷ []) ≡ packet bytes ∷ []
+  no_other_lem : fcs_right bytes ≡ true → fits (packet bytes) ≡ true → packets_in (flag ∷ xs ++ flag ∷ []) ≡ packet bytes ∷ []
   unfolding passing
-  no_other e f = frame-given ∙ rw (e, f)
+  no_other_lem e f = frame-given ∙ rw (e, f)
 
   escape-then-flag : packets_in (flag ∷ xs ++ escape ∷ flag ∷ []) ≡ []
   unfolding has_flag is_flag given
@@ -65,7 +65,7 @@ pub serial-line : SerialLine
 unfolding unescaped
 serial-line =
     record {
-      read_back = read_back;
+      read_back = read_back_lem;
       writes = writes_read;
       skipped = packets_in_skipped;
       resync = packets_in_resync;
@@ -73,12 +73,12 @@ serial-line =
       wrong_fcs = wrong-fcs;
       outside = outside-length;
       escape_then_flag = escape-then-flag;
-      no_other = no_other;
+      no_other = no_other_lem;
       unescapes = unescapes;
       cuts = cuts_declared;
       reads = reads_declared;
-      all_read = all_read;
-      first_read = first_read;
+      all_read = all_read_lem;
+      first_read = first_read_lem;
       across = across_calls;
       any_record = any-record;
       longest = length-line_frame;

@@ -1,5 +1,5 @@
 -- What is written is read back: packets, and the packets of writing calls.
-use Prim.Native.Nat.{ℕ, ◌+◌, ◌≤◌}
+use Prim.Native.Nat.{ℕ, ◌≤◌}
 use mathlib.Core.Bool.{true, cond}
 use mathlib.Core.List.{List, [], ◌∷◌, ◌++◌, map, flatten, append_assoc}
 use mathlib.Core.Path.{◌≡◌, refl, sym, ap, ◌∙◌}
@@ -10,7 +10,6 @@ use lib.Dec.{eqb}
 use Rattle.bits.proofs.Lists.{sets_front}
 use Rattle.bits.proofs.Tests.{and_left, and_right}
 use Rattle.hdlc.specs.Frames.{with_fcs}
-use Rattle.hdlc.specs.Bodies.{packet}
 use Rattle.hdlc.proofs.WithFcs.{length-with_fcs, packet-with_fcs, fcs_right-with_fcs}
 use Rattle.serial.specs.declared.Written.TheVariants.{Frame, Refused}
 use Rattle.serial.specs.Octets.{flag, escaped_bytes, line_frame, line_of, fits}
@@ -58,12 +57,12 @@ unfolding line_of line_frame flatten has_flag
 line_of-flag [] = packets_in_open [] refl ∙ sym no_bytes
 line_of-flag (p ∷ ps) = two-flags ((escaped_bytes (with_fcs p) ++ flag ∷ []) ++ flatten (map line_frame ps))
 
-pub read_back : (ps : List (List ℕ)) → all_fit ps ≡ true → packets_in (line_of ps) ≡ ps
+pub read_back_lem : (ps : List (List ℕ)) → all_fit ps ≡ true → packets_in (line_of ps) ≡ ps
 unfolding line_of flatten all_fit
-read_back [] f = no_bytes
-read_back (p ∷ ps) f =
+read_back_lem [] f = no_bytes
+read_back_lem (p ∷ ps) f =
     packets_in-behind p (line_of ps)
-    ∙ rw (packets_in-line_frame p (and_left (fits p) (all_fit ps) f), line_of-flag ps, read_back ps (and_right (fits p) (all_fit ps) f))
+    ∙ rw (packets_in-line_frame p (and_left (fits p) (all_fit ps) f), line_of-flag ps, read_back_lem ps (and_right (fits p) (all_fit ps) f))
 
 -- ---- writing calls
 
@@ -99,4 +98,4 @@ sent-line (c ∷ cs) =
     rest
 
 pub writes_read : (cs : List WriteCall) → packets_in (sent cs) ≡ packets_sent cs
-writes_read cs = let s = sent-line cs in rw s.is (read_back (packets_sent cs) s.fit)
+writes_read cs = let s = sent-line cs in rw s.is (read_back_lem (packets_sent cs) s.fit)

@@ -131,14 +131,14 @@ module _ (l : Line) (bs : List ℕ) where
   packets-read : packet_given (reading l bs) ≡ given_in l (take (reading l bs).read bs)
   packets-read = of_call.packets ∙ ap (λ (n : ℕ). given_in l (take n bs)) (sym read_k)
 
-  pub all_read : packet_given (reading l bs) ≡ [] → (reading l bs).read ≡ length bs
-  all_read e = read_k ∙ of_call.all e
+  pub all_read_lem : packet_given (reading l bs) ≡ [] → (reading l bs).read ≡ length bs
+  all_read_lem e = read_k ∙ of_call.all e
 
   fewer_none : (n : ℕ) → n < (reading l bs).read → given_in l (take n bs) ≡ []
   fewer_none n h = of_call.before n (rw read_k at h)
 
-pub first_read : (l : Line) (bs : List ℕ) (n : ℕ) → n < (reading l bs).read → packet_given (reading l (take n bs)) ≡ []
-first_read l bs n h =
+pub first_read_lem : (l : Line) (bs : List ℕ) (n : ℕ) → n < (reading l bs).read → packet_given (reading l (take n bs)) ≡ []
+first_read_lem l bs n h =
     let m = (reading l (take n bs)).read in
     let few : m ≤ n = omega (arith, read_within l (take n bs), length-take n bs) in
     packets-read l (take n bs) ∙ rw (take-take m n bs few) (fewer_none l bs m (omega arith))
@@ -177,7 +177,7 @@ some_read l b bs = go (reading l (b ∷ bs)).read refl
     go : (n : ℕ) → (reading l (b ∷ bs)).read ≡ n → 1 ≤ n
     go zero e =
         let none : packet_given (reading l (b ∷ bs)) ≡ [] = packets-read l (b ∷ bs) ∙ ap (λ (n : ℕ). given_in l (take n (b ∷ bs))) e in
-        absurd (omega (arith, all_read l (b ∷ bs) none))
+        absurd (omega (arith, all_read_lem l (b ∷ bs) none))
     go (suc n) e = omega arith
 
 loop-reads : (n : ℕ) (l : Line) (bs : List ℕ) → length bs ≤ n → bytes_read l (calls_for n l bs) ≡ bs

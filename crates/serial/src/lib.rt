@@ -1,4 +1,6 @@
 // Octet-stuffed frames on a serial line (RFC 1662): one packet written, and a line read back byte by byte, cut anywhere.
+#![tactic(auto)]
+
 ghost use Rattle.std.specs.Prelude.{◌≡◌, cond, ◌-◌};
 ghost use Rattle.serial.specs.Heads.{joined};
 ghost use Rattle.serial.specs.Machine as machine;
@@ -12,14 +14,14 @@ pub const FLAG: u8 = 0x7e;
 pub const ESCAPE: u8 = 0x7d;
 
 // What a writing call answers: the frame is written and has so many bytes, or the number of the refusal.
-#[derive(Drop)]
+#[derive(Clone, Copy)]
 pub enum Written {
     Frame(usize),
     Refused(u8),
 }
 
 // What a reader keeps between two bytes (specs/Machine.antt has the meaning of each field).
-#[derive(Drop)]
+#[derive(Clone, Copy)]
 pub struct Line {
     pub inside: bool,
     pub escape: bool,
@@ -28,7 +30,7 @@ pub struct Line {
 }
 
 // What a reading call answers: the record behind the bytes read, how many these are, and the packet, which begins `frame`; its length is 0 where there is none.
-#[derive(Drop)]
+#[derive(Clone, Copy)]
 pub struct Reading {
     pub line: Line,
     pub read: usize,
@@ -37,7 +39,7 @@ pub struct Reading {
 }
 
 // The numbers of a record without its bytes, which reading changes in place.
-#[derive(Drop)]
+#[derive(Clone, Copy)]
 struct Head {
     inside: bool,
     escape: bool,
