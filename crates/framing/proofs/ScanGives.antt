@@ -68,8 +68,8 @@ SameGiven f at bits s = not_nothing (gives (closings f at (take (s.at - at) bits
 
 -- a bit, where the later bits' scan gives so
 module _ (f : Framing) (at : ℕ) (b : Bool) (bits : List Bool) (later : Scan) (least : suc at ≤ later.at) (given : SameGiven (step f b) (suc at) bits later) where
-  read-on : take (later.at - at) (b ∷ bits) ≡ b ∷ take (later.at - suc at) bits
-  read-on = take_behind later.at at b bits least
+  read_on_lem : take (later.at - at) (b ∷ bits) ≡ b ∷ take (later.at - suc at) bits
+  read_on_lem = take_behind later.at at b bits least
 
   read_one : take (suc at - at) (b ∷ bits) ≡ b ∷ []
   read_one = let e : suc at - at ≡ 1 = omega arith in rw e
@@ -77,14 +77,14 @@ module _ (f : Framing) (at : ℕ) (b : Bool) (bits : List Bool) (later : Scan) (
   -- it closes no body
   quiet_gives : closes f b ≡ false → SameGiven f at (b ∷ bits) later
   unfolding closings
-  quiet_gives e = rw (read-on, e) given
+  quiet_gives e = rw (read_on_lem, e) given
 
   -- it closes one
   stopped_gives : (c : Check) → check f ≡ c → closes f b ≡ true → SameGiven f at (b ∷ bits) (stopped c f b at later)
   unfolding stopped closings closed not_nothing given_by
   stopped_gives (Packet n) k e = rw (read_one, e, k)
   stopped_gives Spoilt k e = rw (read_one, e, k)
-  stopped_gives Nothing k e = rw (read-on, e, k) given
+  stopped_gives Nothing k e = rw (read_on_lem, e, k) given
 
 pub scan_gives : (bits : List Bool) (f : Framing) (at : ℕ) → SameGiven f at bits (scan f at bits)
 unfolding scan ended closings not_nothing given_by

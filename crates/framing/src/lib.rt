@@ -1,4 +1,6 @@
 // Reading HDLC framing: the framing record, its range, one step of it by a bit, and the check of a closed body.
+#![tactic(auto)]
+
 ghost use Rattle.std.specs.Prelude.{◌≡◌, true, false, cond, List, ◌++◌, ℕ, ◌+◌, ◌*◌, ◌^◌, ◌≤◌, ◌<◌, eqb, length, take, drop, replicate};
 ghost use Rattle.bits.specs.Bits.{bits_of};
 ghost use Rattle.hdlc.specs.Stuffing.{end_ones};
@@ -7,7 +9,7 @@ ghost use Rattle.framing.specs.Machine as machine;
 ghost use Rattle.framing.specs.Range as range;
 
 // What is kept between two bits (specs/Machine.antt has the meaning of each field).
-#[derive(Drop)]
+#[derive(Clone, Copy)]
 pub struct Framing {
     pub phase: u8,
     pub ones: u8,
@@ -16,7 +18,7 @@ pub struct Framing {
 }
 
 // What a closed body gives: a packet of so many bytes at the start of the framing's bits, a spoilt frame, or nothing.
-#[derive(Drop)]
+#[derive(Clone, Copy)]
 pub enum Check {
     Packet(usize),
     Spoilt,
@@ -24,7 +26,7 @@ pub enum Check {
 }
 
 // How a scan ended: the framing then, the number of the next bit, and what the body that stopped it gives, with its bytes.
-#[derive(Drop)]
+#[derive(Clone, Copy)]
 pub struct Scan {
     pub framing: Framing,
     pub at: usize,
@@ -33,14 +35,14 @@ pub struct Scan {
 }
 
 // Whether a closed body passes, and then the length of its packet.
-#[derive(Drop)]
+#[derive(Clone, Copy)]
 enum Verdict {
     Packet(usize),
     Broken,
 }
 
 // The numbers of a framing without its bits, which are changed or looked at where they lie.
-#[derive(Drop)]
+#[derive(Clone, Copy)]
 pub struct Head {
     pub phase: u8,
     pub ones: u8,
