@@ -1,30 +1,26 @@
 -- One turn of a scan: what reading the bit at a number makes of what is still to be read.
 use Prim.Native.Nat.{ℕ, suc, ◌+◌, ◌≤◌, ◌<◌}
 use mathlib.Core.Bool.{Bool, true, false, cond}
-use mathlib.Core.List.{List, [], ◌∷◌}
+use mathlib.Core.List.{List}
 use mathlib.Core.Path.{◌≡◌, refl}
-use mathlib.Core.Logic.{⊎_elim}
 use native.Mathlib.Numerals.{add-one}
 use native.Mathlib.Omega.{arith}
 use lib.ListN.{length, get_or}
 use lib.Seq.{slice, slice_empty, slice-cons}
-use types.Run.{OneOf}
-use denote.Enum.Declared.{tag_of}
 use Rattle.framing.specs.declared.Framing.{Framing}
 use Rattle.framing.specs.declared.Check.{Check}
 use Rattle.framing.specs.declared.Check.TheVariants.{Packet, Spoilt, Nothing}
 use Rattle.framing.specs.declared.Scan.{Scan}
-use Rattle.framing.specs.contracts.Check.{the_type}
 use Rattle.framing.specs.Machine.{step, closes, check}
 use Rattle.framing.specs.Scanning.{ended, stopped, scan}
 
 -- an answer of which the code knows that it is not `Nothing` stops a scan
-stopped_by : (k : Check) (f : Framing) (b : Bool) (at : ℕ) (later : Scan) → OneOf (0 ∷ 1 ∷ []) (tag_of the_type k)
+stopped_by_lem : (k : Check) (f : Framing) (b : Bool) (at : ℕ) (later : Scan) → (k ≡ Nothing → ⊥)
     → record { framing = step f b; at = suc at; check = k; bytes = f.bits } ≡ stopped k f b at later
 unfolding stopped
-stopped_by (Packet n) f b at later t = refl
-stopped_by Spoilt f b at later t = refl
-stopped_by Nothing f b at later t = absurd (⊎_elim (λ z. omega arith) (λ z. omega arith) t)
+stopped_by_lem (Packet n) f b at later t = refl
+stopped_by_lem Spoilt f b at later t = refl
+stopped_by_lem Nothing f b at later t = absurd (t refl)
 
 -- one turn: b is the bit at number at, g the framing f as the code asks it whether b closes a body, and t its answer
 pub record Turn (f g : Framing) (bs : List Bool) (at to : ℕ) (b t : Bool) : Type 0 where
@@ -52,11 +48,11 @@ module _ {f g : Framing} {bs : List Bool} {at to : ℕ} {b t : Bool} (turn : Tur
     unfolding stopped
     scan_nothing r n s = rw (scan_cons, e, ← same', ← ck, n, same', s)
 
-    pub scan-stopped : (r : Framing) → OneOf (0 ∷ 1 ∷ []) (tag_of the_type k) → r ≡ step g' b
+    pub scan-stopped : (r : Framing) → (k ≡ Nothing → ⊥) → r ≡ step g' b
         → record { framing = r; at = at + 1; check = k; bytes = f.bits } ≡ scan f at (slice at to bs)
     scan-stopped r n s =
         let q : k ≡ check f = rw same' at ck in
-        rw (scan_cons, e, s, same', add-one, ← q) (stopped_by k f b at _ n)
+        rw (scan_cons, e, s, same', add-one, ← q) (stopped_by_lem k f b at _ n)
 
 -- no bit is left
 pub scan_end : (f r : Framing) (bs : List Bool) (at to : ℕ) → at ≤ to → to ≤ at → r ≡ f → ended r at ≡ scan f at (slice at to bs)

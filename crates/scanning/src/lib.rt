@@ -1,4 +1,6 @@
 // Lent bits read with a framing, up to the first body that passes or is spoilt: by words where that can be (`at_once`), and else bit by bit.
+#![tactic(auto)]
+
 ghost use Rattle.std.specs.Prelude.{◌≡◌, true, ◌*◌, ◌≤◌, length};
 ghost use Rattle.std.proofs.Math.Seq.{slice};
 ghost use Rattle.bits.specs.Bits.{bits_of};
@@ -11,14 +13,14 @@ use at_once::ahead;
 use framing::{Check, Framing, Head, Scan};
 
 // How far bits outside a body were read at once: the ones behind the last zero, and the number of the next bit.
-#[derive(Drop)]
+#[derive(Clone, Copy)]
 struct Hunt {
     ones: u8,
     at: usize,
 }
 
 // How far bits were read at once: the numbers of the framing then, and the number of the next bit.
-#[derive(Drop)]
+#[derive(Clone, Copy)]
 struct Ahead {
     head: Head,
     at: usize,
