@@ -1,4 +1,6 @@
 // What becomes of a packet that passed: the notice, the circuit's slot, and what is written.
+#![tactic(auto)]
+
 ghost use Rattle.std.specs.Prelude.{◌≡◌, ◌<◌, ◌≤◌, true, List, length, take};
 ghost use Rattle.parsing.specs.Packets.{lead};
 ghost use Rattle.notices.specs.declared.Slot.{Slot};
@@ -13,7 +15,7 @@ use packet::{Circuits, Found};
 use parsing::packets;
 
 // What a circuit has heard (specs/Slots.antt has the meaning of each field).
-#[derive(Drop)]
+#[derive(Clone, Copy)]
 pub struct Slot {
     pub seen: bool,
     pub last: u8,
@@ -22,7 +24,7 @@ pub struct Slot {
 }
 
 // What became of a circuit's packet.
-#[derive(Drop)]
+#[derive(Clone, Copy)]
 pub enum Fate {
     Copy,
     Begun,
@@ -33,7 +35,7 @@ pub enum Fate {
 }
 
 // What a read tells.
-#[derive(Drop)]
+#[derive(Clone, Copy)]
 pub enum Notice {
     End,
     Spoilt,
@@ -44,7 +46,7 @@ pub enum Notice {
 }
 
 // What a packet leaves and tells, and whether it was the first packet of a listed circuit's message (link 10).
-#[derive(Drop)]
+#[derive(Clone, Copy)]
 pub struct Hearing {
     pub slots: [Slot; 4],
     pub notice: Notice,
