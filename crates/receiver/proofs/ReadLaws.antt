@@ -11,6 +11,7 @@ use lib.Seq.{slice, length-take-le}
 use lib.Dec.{ltb, eqb}
 use types.Run.{OneOf}
 use denote.Enum.Declared.{tag_of}
+use borrow.Author.Rules.{rules}
 use borrow.Author.Tests.{lt-ltb, le-ltb, ltb-false, leb-true, ne_eqb, eqb-true, not-false}
 use Rattle.bits.specs.Bits.{bits_of}
 use Rattle.bits.proofs.Tests.{or_left, or_right}
@@ -146,6 +147,12 @@ module _ (r : Receiver) (p : List ℕ) where
 
 -- ---- what a call makes
 
+-- a body that gave no packet is spoilt, or nothing
+pub quiet_check : (k : Check) → ((n : ℕ) → k ≡ Packet n → ⊥) → OneOf (1 ∷ 2 ∷ []) (tag_of the_type k)
+quiet_check (Packet n) h = absurd (h n refl)
+quiet_check Spoilt h = search rules
+quiet_check Nothing h = search rules
+
 -- a body of which the code knows that it gave no packet
 noticed_quiet : (k : Check) (bytes : List ℕ) (r : Receiver) (store : List ℕ) → OneOf (1 ∷ 2 ∷ []) (tag_of the_type k)
     → noticed k bytes r store ≡ record { receiver = r; store = store; notice = quiet_notice k }
@@ -167,8 +174,8 @@ module _ (r : Receiver) (store bytes : List ℕ) (from to : ℕ) where
     known : Accepted r store bytes from to
     known = accepted r store bytes from to h
 
-    pub framing_in_range : framing_in_range r.framing ≡ true
-    framing_in_range = (in_range_parts r known.range).framing
+    pub framing_in_range_lem : framing_in_range r.framing ≡ true
+    framing_in_range_lem = (in_range_parts r known.range).framing
 
     pub before_scan : (from ≤ to) × (to ≤ 8 * length bytes)
     before_scan = (known.order, known.lent)

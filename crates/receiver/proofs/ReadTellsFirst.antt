@@ -2,7 +2,7 @@
 -- and nothing in them gives a notice.
 use Prim.Native.Nat.{ℕ, ◌+◌, ◌-◌, ◌≤◌, ◌<◌}
 use native.Mathlib.Omega.{arith}
-use mathlib.Core.Bool.{Bool, true, false, cond, true≢false}
+use mathlib.Core.Bool.{Bool, true, cond, true≢false}
 use mathlib.Core.List.{List, [], ◌∷◌, ◌++◌, append-nil}
 use mathlib.Core.Path.{◌≡◌, sym, ap, ◌∙◌}
 use lib.ListN.{length, take, drop}
@@ -116,9 +116,9 @@ module _ (list store : List ℕ) (reads : List ReadCall) (c : ReadCall) where
         let js : List Judged = gives (closings e.receiver.framing 0 (take k lent)) in
         ap (told_by_judged e.receiver e.store) (sym (append-nil js)) ∙ rw answer at (read_tells e c []) ∙ append-nil _
 
-    all_read : is_end n ≡ true → c.from + k ≡ c.to
+    all_read_lem : is_end n ≡ true → c.from + k ≡ c.to
     unfolding read_by read_scan
-    all_read end =
+    all_read_lem end =
         let last : s.at ≡ c.from + length part
         = end_ends s.check s.bytes (with_framing e.receiver s.framing) e.store s.at (c.from + length part) (rw told_is.1 at end)
         (scan_ends part e.receiver.framing c.from) in
@@ -133,7 +133,7 @@ module _ (list store : List ℕ) (reads : List ReadCall) (c : ReadCall) where
               λ new. told_up_to_is k ∙ ap (◌++◌ before) (all_tell ∙ rw new)
               ∙ ap (λ (l : List Report). l ++ record { notice = n; store = after } ∷ []) (sym told_up_to-none);
           at_end =
-              λ end. (told_up_to_is k ∙ ap (◌++◌ before) (all_tell ∙ rw end) ∙ append-nil before ∙ sym told_up_to-none, all_read end);
+              λ end. (told_up_to_is k ∙ ap (◌++◌ before) (all_tell ∙ rw end) ∙ append-nil before ∙ sym told_up_to-none, all_read_lem end);
         }
 
 pub read_tells_first : (list store : List ℕ) (reads : List ReadCall) (c : ReadCall) (n : Notice)

@@ -1,6 +1,6 @@
 -- What is read out of any bits equals what they give: whatever reading calls, accepted or refused, and wherever they cut the bits, their notices but End,
 -- with the store as each call left it, are those of the declared bodies of all bits read, in order; and they leave the framing that these bits leave.
-use Prim.Native.Nat.{ℕ, ◌+◌, ◌-◌}
+use Prim.Native.Nat.{ℕ, ◌-◌}
 use mathlib.Core.Bool.{Bool, true, false, cond}
 use mathlib.Core.List.{List, [], ◌∷◌, ◌++◌, map, append_assoc, append-nil}
 use mathlib.Core.Option.{Option, none, some}

@@ -1,4 +1,5 @@
 // The receiver: its record, listing and reading.
+#![tactic(auto)]
 
 pub mod call;
 pub mod listing;
@@ -8,7 +9,7 @@ use notices::{Notice, Slot};
 use packet::{Answer, Circuits};
 
 // A receiver's record.
-#[derive(Drop)]
+#[derive(Clone, Copy)]
 pub struct Receiver {
     pub circuits: Circuits,
     pub slots: [Slot; 4],
@@ -16,21 +17,21 @@ pub struct Receiver {
 }
 
 // What listing a receiver answers.
-#[derive(Drop)]
+#[derive(Clone, Copy)]
 pub struct Listed {
     pub answer: Answer,
     pub receiver: Receiver,
 }
 
 // What a reading call answers: a notice, or document 01's number of the refusal.
-#[derive(Drop)]
+#[derive(Clone, Copy)]
 pub enum Read {
     Told(Notice),
     Refused(u8),
 }
 
 // What a reading call returns: its answer, the record, and how many bits it read.
-#[derive(Drop)]
+#[derive(Clone, Copy)]
 pub struct Reading {
     pub read: Read,
     pub receiver: Receiver,
