@@ -1,4 +1,6 @@
 // Pass totals: four figures for each circuit number, brought up to date with each notice.
+#![tactic(auto)]
+
 ghost use Rattle.std.specs.Prelude.{◌≡◌, ◌+◌, min};
 ghost use Rattle.notices.specs.declared.Notice.TheVariants.{Circuit};
 ghost use Rattle.totals.specs.Figures.{counts, plus, most, capped};
@@ -10,7 +12,7 @@ use notices::{Fate, Notice};
 pub const MOST: u32 = 4294967295;
 
 // A circuit's figures: messages whole, their bytes, packets lost, packets orphaned.
-#[derive(Drop)]
+#[derive(Clone, Copy)]
 pub struct Figures {
     pub messages: u32,
     pub bytes: u32,
@@ -19,7 +21,7 @@ pub struct Figures {
 }
 
 // The figures of the circuit numbers 0 to 3.
-#[derive(Drop)]
+#[derive(Clone, Copy)]
 pub struct Totals {
     pub circuits: [Figures; 4],
 }
