@@ -104,9 +104,9 @@ no_six_from (true ∷ true ∷ x) zero o r e f q v =
     let five : o ≡ 5 = omega arith in
     absurd (true≢false (sym (seven_ones x) ∙ (rw five at v)))
 
-no_six : (x r : List Bool) → Quiet (false ∷ x) (flag ++ r) → void x ≡ false → NoSix x 5
+no_six_lem : (x r : List Bool) → Quiet (false ∷ x) (flag ++ r) → void x ≡ false → NoSix x 5
 unfolding Quiet void holds starts_with
-no_six x r q v = no_six_from x 5 0 r refl q.0 q.1 v
+no_six_lem x r q v = no_six_from x 5 0 r refl q.0 q.1 v
 
 quiet_body : (y x s : List Bool) → y ≡ replicate 6 true ++ (false ∷ x) → Quiet y s → Quiet (false ∷ x) s
 unfolding Quiet
@@ -199,7 +199,7 @@ module _ (fs : List Frame) (bits : List Bit) where
 
       go : (t : Bool) → void x ≡ t → test (record { opening = i; closing = i + suc (length y); bits = x }) ≡ true
       go true v = rw (void_gives_nothing x v)
-      go false v = passed (is_passed (judge x)) refl (no_six x r calm v)
+      go false v = passed (is_passed (judge x)) refl (no_six_lem x r calm v)
 
   -- so are all bodies ahead, behind a flag or where none is read yet
   right_behind : (s : List Bit) (i : ℕ) (c : Bool) (y : List Bool) → Since i c y s → all_of test (bodies_behind (values s) i (c ∷ y)) ≡ true

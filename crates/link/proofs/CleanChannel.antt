@@ -2,9 +2,9 @@
 use Prim.Native.Nat.{ℕ, zero, suc, ◌+◌, ◌≤◌}
 use native.Mathlib.Nat.{zero-add, add-zero}
 use native.Mathlib.Omega.{arith}
-use mathlib.Core.Bool.{Bool, true, false, not, ◌&&◌, or-true, and-true, true≢false}
+use mathlib.Core.Bool.{Bool, true, false, not, ◌&&◌, ◌||◌, or-true, and-true, true≢false}
 use mathlib.Core.List.{List, [], ◌∷◌, ◌++◌, map, append-nil}
-use mathlib.Core.Path.{◌≡◌, refl, sym, ap, ◌∙◌}
+use mathlib.Core.Path.{◌≡◌, refl, sym, ap, subst, ◌∙◌}
 use lib.ListN.{length, length-take, length-drop}
 use lib.Dec.{eqb}
 use borrow.Author.Tests.{eq-eqb}
@@ -14,7 +14,7 @@ use Rattle.packet.specs.Lists.{any_of, all_of, those, AllAre}
 use Rattle.queues.specs.Queues.{Copy}
 use Rattle.queues.specs.Sent.{placed_at, each_once, frames_of}
 use Rattle.packet.proofs.Choices.{cond_either}
-use Rattle.link.specs.Demand3.{Piece, kept, replaced, originals, Pass, joined_bits, blocks, Frame, frame_length, frames, kept_bits, resulting, result, together, came_whole, is_copy_of, comes, came, from_first, up_to_last, from_first_to_last, lost, at_most_six_lost}
+use Rattle.link.specs.Demand3.{Piece, kept, replaced, originals, Pass, joined_bits, blocks, Frame, frame_length, frames, kept_bits, resulting, result, begin_with, together, came_whole, is_copy_of, comes, came, from_first, up_to_last, from_first_to_last, lost, at_most_six_lost}
 use Rattle.link.specs.Channels.{Clean}
 use Rattle.link.proofs.ResultingBits.{kept_bits_append, begins_kept, row_together}
 use Rattle.link.proofs.SamePackets.{frame_length-pos}
@@ -31,7 +31,8 @@ together-kept zero k m bs h = rw add-zero (row_together 0 (kept_bits m bs) m k (
 together-kept (suc i) k m [] h = absurd (omega arith)
 together-kept (suc i) k m (b ∷ bs) h =
     let e : m + suc i ≡ suc m + i = omega arith in
-    rw (e, together-kept i k (suc m) bs (omega arith), or-true)
+    subst (λ n. together n k (kept_bits m (b ∷ bs)) ≡ true) (sym e)
+    (ap (◌||◌ (begin_with (suc m + i) k (kept_bits m (b ∷ bs)))) (together-kept i k (suc m) bs (omega arith)) ∙ or-true _)
 
 -- ---- a frame that lies in the bits
 

@@ -130,7 +130,7 @@ module _ (comes : ℕ → Bool) (n : ℕ) (p : Sent) (ps : List Sent) (is : p.or
         unplaced = later.unplaced;
         placed = rw once (ap (λ l. comes o.number ∷ l) later.placed);
         none-comes = λ i h. comes_in_other o rest (b ∷ bs) i (omega arith) ∙ later.none-comes i (omega arith);
-        none_placed = λ i h. rw (once, ne_eqb o.number i (omega arith)) (ap (λ l. o.number ∷ l) (later.none-placed i (omega arith)));
+        none_placed = λ i h. rw (once, ne_eqb o.number i (omega arith)) (ap (λ l. o.number ∷ l) (later.none_placed i (omega arith)));
       }
     where
       o : Copy
@@ -140,7 +140,7 @@ module _ (comes : ℕ → Bool) (n : ℕ) (p : Sent) (ps : List Sent) (is : p.or
       here = e ∙ comes_in_same o rest (b ∷ bs) ∙ rw (later.none-comes o.number (omega arith)) (or-false (any_of (λ b. b) (b ∷ bs)))
 
       once : those (λ i. not (eqb i o.number)) (each_once (copies_in (each o bs ++ rest))) ≡ each_once (copies_in rest)
-      once = each_once_each o rest bs (later.none-placed o.number (omega arith))
+      once = each_once_each o rest bs (later.none_placed o.number (omega arith))
 
 -- the same arrivals, written otherwise
 Arrived_same : {comes : ℕ → Bool} {n : ℕ} {ps : List Sent} {l m : List Arrival} → l ≡ m → Arrived comes n ps m → Arrived comes n ps l

@@ -113,7 +113,7 @@ right_copy_of k priority text number part r few short h inside =
 right_made : (whose : Option Placed) (packet : List ℕ) → MadeBy whose packet → Right packet
 unfolding MadeBy
 right_made none packet m =
-    rw m.is (right_system m.enable m.code m.information m.enable-le m.code-le m.short m.bytes)
+    rw m.is (right_system m.enable m.code m.information m.enable_le m.code_le m.short m.bytes)
 right_made (some q) packet m =
     let c : Made q.circuit q.copy = m.2 in
     let is : packet ≡ (copy_of q.circuit q.copy.priority c.text q.copy.number c.part).packet =

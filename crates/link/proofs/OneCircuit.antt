@@ -394,7 +394,7 @@ module _ (cs : Circuits) (n : ℕ) (n-lt : n < 4) (k : Circuit) (is : (d : Circu
   -- a frame's packet tells of circuit n if it is one of circuit k
   step-made : (w : Option Placed) (r : Receiver) (store p : List ℕ) → MadeBy w p → Ready cs r → Step (is_of k w) cs n r store p (passed r store p)
   unfolding MadeBy is_of
-  step-made none r store p m s = step-system cs n n-lt r store p s m.enable m.code m.information m.is m.enable-le m.code-le m.short
+  step-made none r store p m s = step-system cs n n-lt r store p s m.enable m.code m.information m.is m.enable_le m.code_le m.short
   step-made (some q) r store p m s =
       rw (← is q.circuit, m.0) (step_circuit cs n n-lt r store q.copy.packet s q.circuit (made-packet q.circuit q.copy m.1 m.2))
 

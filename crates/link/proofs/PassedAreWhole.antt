@@ -121,6 +121,7 @@ module _ (p : List ℕ) (bytes : Bytes p) (least : 2 ≤ length p) (most : lengt
 -- each of the frames that lie in bits
 Laid_each : (fs : List Frame) (joined : List Bool) (f : Frame) → Laid joined fs → Memᴰ f fs → LaidAt joined f
 unfolding AllAre
+Laid_each [] joined f h m = elim m [ ]
 Laid_each (g ∷ fs) joined f h (Memᴰ.head e) = rw e h.0
 Laid_each (g ∷ fs) joined f h (Memᴰ.tail m) = Laid_each fs joined f h.1 m
 

@@ -64,10 +64,10 @@ module _ (joined : List Bool) where
 -- ---- a row
 
 -- a number asked for
-is-number : (n : ℕ) (o : Option ℕ) → is_number n o ≡ true → o ≡ some n
+is_number_lem : (n : ℕ) (o : Option ℕ) → is_number n o ≡ true → o ≡ some n
 unfolding is_number
-is-number n none e = absurd (true≢false (sym e))
-is-number n (some m) e = ap some (eqb-true m n e)
+is_number_lem n none e = absurd (true≢false (sym e))
+is_number_lem n (some m) e = ap some (eqb-true m n e)
 
 -- the values of bits that begin with a row are those of the stretch
 begin_values : (k a : ℕ) {joined : List Bool} {n : ℕ} {bits : List Bit} → Numbered joined n bits → begin_with a k bits ≡ true
@@ -76,9 +76,9 @@ unfolding begin_with values
 begin_values zero a h e = refl
 begin_values (suc k) a over e = absurd (true≢false (sym e))
 begin_values (suc k) a (foreign {b} {bs} new later) e =
-    absurd (let z : ◌≡◌ {A = ℕ} 0 1 = cc (is-number a b.number (and_left (is_number a b.number) (begin_with (suc a) k bs) e)) in omega arith)
+    absurd (let z : ◌≡◌ {A = ℕ} 0 1 = cc (is_number_lem a b.number (and_left (is_number a b.number) (begin_with (suc a) k bs) e)) in omega arith)
 begin_values (suc k) a {joined} (own {b} {bs} m at is value later) e =
-    let here : m ≡ a = cc (is-number a b.number (and_left (is_number a b.number) (begin_with (suc a) k bs) e)) in
+    let here : m ≡ a = cc (is_number_lem a b.number (and_left (is_number a b.number) (begin_with (suc a) k bs) e)) in
     let value' : drop a joined ≡ b.value ∷ drop (suc a) joined = rw here at value in
     rw value' (ap (◌∷◌ b.value) (begin_values k (suc a) later (and_right (is_number a b.number) (begin_with (suc a) k bs) e)))
 
@@ -135,7 +135,7 @@ unfolding number_at
 number_at-drop i bits j = ap (λ (b : Bit). b.number) (get_or-drop i bits j (new_bit false))
 
 -- the numbers are from n on
-at_least : (i : ℕ) {joined : List Bool} {n : ℕ} {bits : List Bit} (m : ℕ) → Numbered joined n bits → number_at bits i ≡ some m → n ≤ m
+at_least : {joined : List Bool} (i : ℕ) {n : ℕ} {bits : List Bit} (m : ℕ) → Numbered joined n bits → number_at bits i ≡ some m → n ≤ m
 unfolding number_at new_bit
 at_least i m over e = absurd (let z : ◌≡◌ {A = ℕ} 0 1 = cc in omega arith)
 at_least zero m (foreign new later) e = absurd (let z : ◌≡◌ {A = ℕ} 0 1 = cc in omega arith)
@@ -144,7 +144,7 @@ at_least zero m (own m' at is value later) e = let same : m' ≡ m = cc in omega
 at_least (suc i) m (own m' at is value later) e = omega (arith, at_least i m later e)
 
 -- and ascend
-ascend : (i d : ℕ) {joined : List Bool} {n : ℕ} {bits : List Bit} (m m' : ℕ) → Numbered joined n bits → number_at bits i ≡ some m
+ascend : {joined : List Bool} (i d : ℕ) {n : ℕ} {bits : List Bit} (m m' : ℕ) → Numbered joined n bits → number_at bits i ≡ some m
     → number_at (drop (suc i) bits) d ≡ some m' → m < m'
 unfolding number_at new_bit
 ascend i d m m' over e e' = absurd (let z : ◌≡◌ {A = ℕ} 0 1 = cc in omega arith)
@@ -156,7 +156,7 @@ ascend (suc i) d m m' (own k at is value later) e e' = ascend i d m m' later e e
 -- the last of the bits that begin with a row
 begin_last : (k a : ℕ) (bits : List Bit) → begin_with a (suc k) bits ≡ true → number_at bits k ≡ some (a + k)
 unfolding number_at begin_with
-begin_last zero a (b ∷ bs) e = let z : a + 0 ≡ a = omega arith in rw z (is-number a b.number (and_left (is_number a b.number) true e))
+begin_last zero a (b ∷ bs) e = let z : a + 0 ≡ a = omega arith in rw z (is_number_lem a b.number (and_left (is_number a b.number) true e))
 begin_last zero a [] e = absurd (true≢false (sym e))
 begin_last (suc k) a [] e = absurd (true≢false (sym e))
 begin_last (suc k) a (b ∷ bs) e =

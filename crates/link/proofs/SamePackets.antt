@@ -71,6 +71,7 @@ Later_closings (b ∷ bs) f n = go (closes f b) (Later_closings bs (step f b) (s
 
 Later_each : (cs : List Closing) (n : ℕ) (c : Closing) → Later n cs → Memᴰ c cs → n < c.read
 unfolding Later
+Later_each [] n c h m = elim m [ ]
 Later_each (d ∷ cs) n c h (Memᴰ.head e) = rw e h.0
 Later_each (d ∷ cs) n c h (Memᴰ.tail m) = omega (arith, h.0, Later_each cs d.read c h.1 m)
 
@@ -80,6 +81,7 @@ end_of f = f.from + frame_length f
 
 Ascending_each : (fs : List Frame) (n : ℕ) (f : Frame) → Ascending n fs → Memᴰ f fs → n < end_of f
 unfolding Ascending
+Ascending_each [] n f h m = elim m [ ]
 Ascending_each (g ∷ fs) n f h (Memᴰ.head e) = rw e h.0
 Ascending_each (g ∷ fs) n f h (Memᴰ.tail m) = omega (arith, h.0, Ascending_each fs (end_of g) f h.1 m)
 

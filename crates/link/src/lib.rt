@@ -1,4 +1,6 @@
 // Demand 3, the claim about whole lists of calls, and pass totals over it: no code, only the functions that carry them.
+#![tactic(auto)]
+
 ghost use Rattle.link.specs.Demand3.{Demand3};
 ghost use Rattle.link.specs.Demand3Totals.{Demand3Totals};
 
