@@ -14,10 +14,10 @@ pub record ReadOn (from to bits : ℕ) : Type 0 where
   pub some : 0 < bits
   pub within : from + bits ≤ to
 
-pub read-on : (r : Receiver) (store bytes : List ℕ) (from to : ℕ) → from < to → {new : List ℕ} {a : Reading}
+pub read_on_lem : (r : Receiver) (store bytes : List ℕ) (from to : ℕ) → from < to → {new : List ℕ} {a : Reading}
     → ReadCalled r store bytes from to new a → {n : Notice} → a.read ≡ Told n → ReadOn from to a.bits
 unfolding read_number answer_to_read bits_read read_scan
-read-on r store bytes from to h called e =
+read_on_lem r store bytes from to h called e =
     let told = (read_by (read_scan r bytes from to) r store).notice in
     let refusal = read_refusal r store bytes from to in
     let none : refusal ≡ 0 = sym (read_number-read_of refusal told) ∙ ap read_number (sym called.read ∙ e) in

@@ -1,6 +1,8 @@
 // A pass end to end on the proved calls. Four circuits take messages of telemetry as they get free, and twelve blocks carry them. The joined
 // bits are torn in five places and read back in uneven cuts, by a receiver that lists the circuits in another order.
 // The file `stdout` has what other code makes of documents 01 and 02 (tests/pass).
+#![tactic(auto)]
+
 ghost use Rattle.std.specs.Prelude.{◌≡◌, ◌*◌, ◌<◌, ◌≤◌, length};
 
 use notices::{Fate, Notice};
@@ -10,6 +12,7 @@ use printing::{print, print_bytes, print_number, print_numbers, print_right};
 use receiver::{Read, Receiver};
 use sender::blocks::make_block;
 use sender::{Made, Making};
+use std::io;
 use totals::Totals;
 
 // A block has 1,200 bits, or 150 bytes, of which 1,100 bits may be used; all twelve have 14,400 bits.
@@ -18,9 +21,10 @@ const BITS: usize = 1200;
 const USABLE: usize = 1100;
 
 // Text, and a number behind it.
-fn tell(text: &[u8], n: usize) {
-    print(text);
-    print_number(n);
+fn tell(rt: &impl Print, text: &[u8], n: usize) -> io::Result<()> {
+    print(rt, text)?;
+    print_number(rt, n)?;
+    Ok(())
 }
 
 // The charge of a battery in percent, at a time of its cycle of 120: up from 40, and down again.
@@ -68,12 +72,19 @@ fn make_message(message: &mut [u8], circuit: usize, count: usize)
     }
 }
 
-fn print_offer(circuit: usize, size: usize, priority: u8, repetition: u8) {
-    tell(b"circuit ", circuit);
-    tell(b" takes a message, length ", size);
-    tell(b", priority ", priority as usize);
-    tell(b", repetition ", repetition as usize);
-    print(b"\n");
+fn print_offer(
+    rt: &impl Print,
+    circuit: usize,
+    size: usize,
+    priority: u8,
+    repetition: u8,
+) -> io::Result<()> {
+    tell(rt, b"circuit ", circuit)?;
+    tell(rt, b" takes a message, length ", size)?;
+    tell(rt, b", priority ", priority as usize)?;
+    tell(rt, b", repetition ", repetition as usize)?;
+    print(rt, b"\n")?;
+    Ok(())
 }
 
 // What is planned for a circuit: its priority, its repetition, and the lengths of its six messages.
@@ -86,12 +97,18 @@ fn planned(circuit: usize, place: usize) -> u8
 }
 
 // The next message of a circuit is offered, if there is one. The circuit refuses while it has a copy to place.
-fn offer_next(sender: Sender, store: &mut [u8], taken: &mut [usize; 4], circuit: usize) -> Sender
+fn offer_next(
+    rt: &impl Print,
+    sender: Sender,
+    store: &mut [u8],
+    taken: &mut [usize; 4],
+    circuit: usize,
+) -> io::Result<Sender>
     requires { circuit < 4 }
 {
     let count = taken[circuit];
     if 5 < count {
-        return sender;
+        return Ok(sender);
     }
     let priority = planned(circuit, 0);
     let repetition = planned(circuit, 1);
@@ -101,22 +118,27 @@ fn offer_next(sender: Sender, store: &mut [u8], taken: &mut [usize; 4], circuit:
     let offered = sender.offer(store, circuit, priority, repetition, &message[0..size]);
     let answer = offered.answer;
     let Answer::Accepted = answer else {
-        return sender;
+        return Ok(sender);
     };
     taken[circuit] = count + 1;
-    print_offer(circuit, size, priority, repetition);
-    offered.sender
+    print_offer(rt, circuit, size, priority, repetition)?;
+    Ok(offered.sender)
 }
 
 // Messages are offered at all circuits.
-fn offer_all(sender: Sender, store: &mut [u8], taken: &mut [usize; 4]) -> Sender {
+fn offer_all(
+    rt: &impl Print,
+    sender: Sender,
+    store: &mut [u8],
+    taken: &mut [usize; 4],
+) -> io::Result<Sender> {
     let mut s = sender;
     let mut circuit = 0;
     while circuit < 4 {
-        s = offer_next(s, store, taken, circuit);
+        s = offer_next(rt, s, store, taken, circuit)?;
         circuit += 1;
     }
-    s
+    Ok(s)
 }
 
 // A block is made. Two of them have a system packet: that of block 4 bars priority 3, until that of block 9 enables it again.
@@ -130,41 +152,48 @@ fn make(sender: Sender, store: &[u8], block: &mut [u8], number: usize) -> Making
     make_block(sender, store, block, BITS, USABLE, false, 0, 0, b"")
 }
 
-fn print_block(number: usize, made: Made, sender: Sender) {
+fn print_block(rt: &impl Print, number: usize, made: Made, sender: Sender) -> io::Result<()> {
     let Made::Block {
         placed,
         used,
         zeros,
     } = made
     else {
-        return;
+        return Ok(());
     };
-    tell(b"  block ", number);
-    tell(b": ", placed);
-    tell(b" frames in ", used);
-    tell(b" bits, stuffed zeros ", zeros);
-    print(b", left");
+    tell(rt, b"  block ", number)?;
+    tell(rt, b": ", placed)?;
+    tell(rt, b" frames in ", used)?;
+    tell(rt, b" bits, stuffed zeros ", zeros)?;
+    print(rt, b", left")?;
     let t = sender.slots;
-    print_numbers(&[t[0].left, t[1].left, t[2].left, t[3].left]);
-    print(b"\n");
+    print_numbers(rt, &[t[0].left, t[1].left, t[2].left, t[3].left])?;
+    print(rt, b"\n")?;
+    Ok(())
 }
 
 // All blocks, each at its place in the joined bits, and messages offered before each.
-fn send(store: &mut [u8], taken: &mut [usize; 4], joined: &mut [u8])
+fn send(
+    rt: &impl Print,
+    store: &mut [u8],
+    taken: &mut [usize; 4],
+    joined: &mut [u8],
+) -> io::Result<()>
     requires { length joined.old ≡ 1800 }
 {
     let listed = Sender::list(b"\x10\x00\x00\x02\x01\x07\x7e\x00\x00\x33\x00\x00");
     let mut s = listed.sender;
     let mut number = 0;
     while number < 12 {
-        s = offer_all(s, store, taken);
+        s = offer_all(rt, s, store, taken)?;
         let start = 150 * number;
         let making = make(s, store, &mut joined[start..], number);
         let made = making.made;
         s = making.sender;
-        print_block(number, made, s);
+        print_block(rt, number, made, s)?;
         number += 1;
     }
+    Ok(())
 }
 
 // Bits are replaced by noise, from one number up to another.
@@ -186,7 +215,7 @@ fn turn_over(joined: &mut [u8], at: usize)
 }
 
 // The joined bits are torn.
-fn tear(joined: &mut [u8])
+fn tear(rt: &impl Print, joined: &mut [u8]) -> io::Result<()>
     requires { length joined.old ≡ 1800 }
 {
     turn_over(joined, 2200);
@@ -194,11 +223,12 @@ fn tear(joined: &mut [u8])
     bits::put_run(joined, 5840, 300, false);
     put_noise(joined, 9850, 10450);
     turn_over(joined, 13450);
-    print(b"bit 2200 is turned over\n");
-    print(b"bits 3000 to 3059 are ones\n");
-    print(b"bits 5840 to 6139 are zeros\n");
-    print(b"bits 9850 to 10449 are noise\n");
-    print(b"bit 13450 is turned over\n");
+    print(rt, b"bit 2200 is turned over\n")?;
+    print(rt, b"bits 3000 to 3059 are ones\n")?;
+    print(rt, b"bits 5840 to 6139 are zeros\n")?;
+    print(rt, b"bits 9850 to 10449 are noise\n")?;
+    print(rt, b"bit 13450 is turned over\n")?;
+    Ok(())
 }
 
 // A count grows, of what the totals do not have. Each circuit has four places: Copy, Begun, Held and Wrong. From place 16 on come System,
@@ -210,98 +240,130 @@ fn count(counts: &mut [usize; 21], place: usize, more: usize)
 }
 
 // A case of a notice is printed and counted.
-fn print_case(counts: &mut [usize; 21], place: usize, case: &[u8])
+fn print_case(
+    rt: &impl Print,
+    counts: &mut [usize; 21],
+    place: usize,
+    case: &[u8],
+) -> io::Result<()>
     requires { place < 21 }
 {
     count(counts, place, 1);
-    print(case);
+    print(rt, case)?;
+    Ok(())
 }
 
 // A message that was handed over: the start of its circuit's region, which none passes. Circuit 0 has bytes, the others have text.
-fn print_message(store: &[u8], number: usize, size: usize)
+fn print_message(rt: &impl Print, store: &[u8], number: usize, size: usize) -> io::Result<()>
     requires { (length store.now ≡ 16400) × (number < 4) }
 {
     if Receiver::REGION < size {
-        return;
+        return Ok(());
     }
-    tell(b", length ", size);
-    print(b" [");
+    tell(rt, b", length ", size)?;
+    print(rt, b" [")?;
     let start = Receiver::REGION * number;
     let end = start + size;
     if number == 0 {
-        print_bytes(&store[start..end]);
+        print_bytes(rt, &store[start..end])?;
     } else {
-        print(&store[start..end]);
+        print(rt, &store[start..end])?;
     }
-    print(b"]");
+    print(rt, b"]")?;
+    Ok(())
 }
 
 // A notice that names a circuit. No number is above 3.
-fn print_circuit(counts: &mut [usize; 21], store: &[u8], number: usize, loss: u8, fate: Fate)
+fn print_circuit(
+    rt: &impl Print,
+    counts: &mut [usize; 21],
+    store: &[u8],
+    number: usize,
+    loss: u8,
+    fate: Fate,
+) -> io::Result<()>
     requires { length store.now ≡ 16400 }
 {
     if 3 < number {
-        return;
+        return Ok(());
     }
-    tell(b"circuit ", number);
-    tell(b", loss ", loss as usize);
-    print(b", ");
+    tell(rt, b"circuit ", number)?;
+    tell(rt, b", loss ", loss as usize)?;
+    print(rt, b", ")?;
     let row = 4 * number;
     match fate {
-        Fate::Copy => print_case(counts, row, b"Copy"),
-        Fate::Begun => print_case(counts, row + 1, b"Begun"),
-        Fate::Held => print_case(counts, row + 2, b"Held"),
+        Fate::Copy => print_case(rt, counts, row, b"Copy")?,
+        Fate::Begun => print_case(rt, counts, row + 1, b"Begun")?,
+        Fate::Held => print_case(rt, counts, row + 2, b"Held")?,
         Fate::Orphan => {
-            print(b"Orphan");
+            print(rt, b"Orphan")?;
         }
-        Fate::Wrong => print_case(counts, row + 3, b"Wrong"),
+        Fate::Wrong => print_case(rt, counts, row + 3, b"Wrong")?,
         Fate::Whole(size) => {
-            print(b"Whole");
-            print_message(store, number, size);
+            print(rt, b"Whole")?;
+            print_message(rt, store, number, size)?;
         }
     }
+    Ok(())
 }
 
 // A notice that tells a system packet, with its information. None has more than 16 bytes.
-fn print_system(counts: &mut [usize; 21], store: &[u8], enable: u8, code: u8, size: usize)
+fn print_system(
+    rt: &impl Print,
+    counts: &mut [usize; 21],
+    store: &[u8],
+    enable: u8,
+    code: u8,
+    size: usize,
+) -> io::Result<()>
     requires { length store.now ≡ 16400 }
 {
     if 16 < size {
-        return;
+        return Ok(());
     }
-    print_case(counts, 16, b"System");
-    tell(b", enable bits ", enable as usize);
-    tell(b", code ", code as usize);
-    tell(b", length ", size);
-    print(b" [");
+    print_case(rt, counts, 16, b"System")?;
+    tell(rt, b", enable bits ", enable as usize)?;
+    tell(rt, b", code ", code as usize)?;
+    tell(rt, b", length ", size)?;
+    print(rt, b" [")?;
     let end = Receiver::SYSTEM + size;
-    print(&store[Receiver::SYSTEM..end]);
-    print(b"]");
+    print(rt, &store[Receiver::SYSTEM..end])?;
+    print(rt, b"]")?;
+    Ok(())
 }
 
 // A notice, told after so many bits. The end of a cut is none to print.
-fn print_notice(counts: &mut [usize; 21], store: &[u8], at: usize, notice: Notice)
+fn print_notice(
+    rt: &impl Print,
+    counts: &mut [usize; 21],
+    store: &[u8],
+    at: usize,
+    notice: Notice,
+) -> io::Result<()>
     requires { length store.now ≡ 16400 }
 {
     if let Notice::End = notice {
-        return;
+        return Ok(());
     }
-    print(b"bit ");
-    print_right(at, 5);
-    print(b": ");
+    print(rt, b"bit ")?;
+    print_right(rt, at, 5)?;
+    print(rt, b": ")?;
     match notice {
         Notice::End => (),
         Notice::System {
             enable,
             code,
             length,
-        } => print_system(counts, store, enable, code, length),
-        Notice::Spoilt => print_case(counts, 17, b"Spoilt"),
-        Notice::Malformed => print_case(counts, 18, b"Malformed"),
-        Notice::Elsewhere => print_case(counts, 19, b"Elsewhere"),
-        Notice::Circuit { number, loss, fate } => print_circuit(counts, store, number, loss, fate),
+        } => print_system(rt, counts, store, enable, code, length)?,
+        Notice::Spoilt => print_case(rt, counts, 17, b"Spoilt")?,
+        Notice::Malformed => print_case(rt, counts, 18, b"Malformed")?,
+        Notice::Elsewhere => print_case(rt, counts, 19, b"Elsewhere")?,
+        Notice::Circuit { number, loss, fate } => print_circuit(
+            rt, counts, store, number, loss, fate,
+        )?,
     }
-    print(b"\n");
+    print(rt, b"\n")?;
+    Ok(())
 }
 
 // The receiving end: the receiver, and the totals of what it told.
@@ -313,13 +375,14 @@ struct Station {
 
 // A cut is read, from one notice to the next.
 fn read_cut(
+    rt: &impl Print,
     station: Station,
     store: &mut [u8],
     joined: &[u8],
     counts: &mut [usize; 21],
     from: usize,
     to: usize,
-) -> Station
+) -> io::Result<Station>
     requires { length store.old ≡ 16400 }
 {
     let mut r = station.receiver;
@@ -335,12 +398,12 @@ fn read_cut(
         at += reading.bits;
         count(counts, 20, reading.bits);
         totals = totals.note(notice);
-        print_notice(counts, store, at, notice);
+        print_notice(rt, counts, store, at, notice)?;
     }
-    Station {
+    Ok(Station {
         receiver: r,
         totals,
-    }
+    })
 }
 
 // Where a cut ends: it has 1 to 200 bits.
@@ -356,7 +419,12 @@ fn cut_end(from: usize) -> usize
 }
 
 // All bits are read, cut by cut.
-fn receive(store: &mut [u8], joined: &[u8], counts: &mut [usize; 21]) -> Totals
+fn receive(
+    rt: &impl Print,
+    store: &mut [u8],
+    joined: &[u8],
+    counts: &mut [usize; 21],
+) -> io::Result<Totals>
     requires { length store.old ≡ 16400 }
 {
     let listed = Receiver::list(b"\x7e\x00\x00\x33\x00\x00\x10\x00\x00\x02\x01\x07");
@@ -368,58 +436,82 @@ fn receive(store: &mut [u8], joined: &[u8], counts: &mut [usize; 21]) -> Totals
     let mut at = 0;
     while at < 14400 {
         let end = cut_end(at);
-        station = read_cut(station, store, joined, counts, at, end);
+        station = read_cut(rt, station, store, joined, counts, at, end)?;
         at = end;
     }
-    station.totals
+    Ok(station.totals)
 }
 
 // A circuit's line of the table.
-fn print_row(name: &[u8], counts: &[usize; 21], totals: Totals, row: usize, sent: usize)
+fn print_row(
+    rt: &impl Print,
+    name: &[u8],
+    counts: &[usize; 21],
+    totals: Totals,
+    row: usize,
+    sent: usize,
+) -> io::Result<()>
     requires { row < 4 }
 {
     let figures = totals.circuits[row];
-    print(name);
-    print_right(counts[4 * row], 8);
-    print_right(counts[4 * row + 1], 8);
-    print_right(counts[4 * row + 2], 8);
-    print_right(figures.orphaned as usize, 8);
-    print_right(counts[4 * row + 3], 8);
-    print_right(figures.lost as usize, 8);
-    print_right(figures.messages as usize, 8);
-    print_right(figures.bytes as usize, 8);
-    print_right(sent, 8);
-    print(b"\n");
+    print(rt, name)?;
+    print_right(rt, counts[4 * row], 8)?;
+    print_right(rt, counts[4 * row + 1], 8)?;
+    print_right(rt, counts[4 * row + 2], 8)?;
+    print_right(rt, figures.orphaned as usize, 8)?;
+    print_right(rt, counts[4 * row + 3], 8)?;
+    print_right(rt, figures.lost as usize, 8)?;
+    print_right(rt, figures.messages as usize, 8)?;
+    print_right(rt, figures.bytes as usize, 8)?;
+    print_right(rt, sent, 8)?;
+    print(rt, b"\n")?;
+    Ok(())
 }
 
-fn print_sums(counts: &[usize; 21], totals: Totals, taken: [usize; 4]) {
-    print(b"circuit       Copy   Begun    Held  Orphan   Wrong  losses   Whole   bytes    sent\n");
-    print_row(b"0: 7e     ", counts, totals, 0, taken[2]);
-    print_row(b"1: 33     ", counts, totals, 1, taken[3]);
-    print_row(b"2: 10     ", counts, totals, 2, taken[0]);
-    print_row(b"3: 02 07  ", counts, totals, 3, taken[1]);
-    tell(b"bits read: ", counts[20]);
-    tell(b"; System ", counts[16]);
-    tell(b", Spoilt ", counts[17]);
-    tell(b", Malformed ", counts[18]);
-    tell(b", Elsewhere ", counts[19]);
-    print(b"\n");
+fn print_sums(
+    rt: &impl Print,
+    counts: &[usize; 21],
+    totals: Totals,
+    taken: [usize; 4],
+) -> io::Result<()> {
+    print(
+        rt,
+        b"circuit       Copy   Begun    Held  Orphan   Wrong  losses   Whole   bytes    sent\n",
+    )?;
+    print_row(rt, b"0: 7e     ", counts, totals, 0, taken[2])?;
+    print_row(rt, b"1: 33     ", counts, totals, 1, taken[3])?;
+    print_row(rt, b"2: 10     ", counts, totals, 2, taken[0])?;
+    print_row(rt, b"3: 02 07  ", counts, totals, 3, taken[1])?;
+    tell(rt, b"bits read: ", counts[20])?;
+    tell(rt, b"; System ", counts[16])?;
+    tell(rt, b", Spoilt ", counts[17])?;
+    tell(rt, b", Malformed ", counts[18])?;
+    tell(rt, b", Elsewhere ", counts[19])?;
+    print(rt, b"\n")?;
+    Ok(())
 }
 
-fn main() {
-    print(b"A pass end to end: four circuits, 12 blocks of 1200 user bits, torn in five places\n");
-    print(b"The sender lists 10, 02 07, 7e and 33; the receiver lists 7e, 33, 10 and 02 07\n");
+fn main(rt: HostRuntime) -> io::Result<()> {
+    print(
+        &rt,
+        b"A pass end to end: four circuits, 12 blocks of 1200 user bits, torn in five places\n",
+    )?;
+    print(
+        &rt,
+        b"The sender lists 10, 02 07, 7e and 33; the receiver lists 7e, 33, 10 and 02 07\n",
+    )?;
     let mut sent = [0u8; 16384];
     let mut taken = [0usize; 4];
     let mut joined = [0u8; 1800];
-    print(b"\nSending\n");
-    send(&mut sent, &mut taken, &mut joined);
-    print(b"\nTearing\n");
-    tear(&mut joined);
-    print(b"\nReading, in cuts of 1 to 200 bits\n");
+    print(&rt, b"\nSending\n")?;
+    send(&rt, &mut sent, &mut taken, &mut joined)?;
+    print(&rt, b"\nTearing\n")?;
+    tear(&rt, &mut joined)?;
+    print(&rt, b"\nReading, in cuts of 1 to 200 bits\n")?;
     let mut heard = [0u8; Receiver::STORE];
     let mut counts = [0usize; 21];
-    let totals = receive(&mut heard, &joined, &mut counts);
-    print(b"\nSums\n");
-    print_sums(&counts, totals, taken);
+    let totals = receive(&rt, &mut heard, &joined, &mut counts)?;
+    print(&rt, b"\nSums\n")?;
+    print_sums(&rt, &counts, totals, taken)?;
+    Ok(())
 }
