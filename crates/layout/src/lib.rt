@@ -1,4 +1,5 @@
 // What records and answers share in bytes: numbers of several bytes, the circuits of a record and the place for a packet.
+#![tactic(auto)]
 
 ghost use Rattle.std.specs.Prelude.{◌&&◌, ◌≡◌, ◌+◌, ◌%◌, ◌≤◌, min, leb, eqb, length, take};
 ghost use Rattle.std.proofs.lemmas.List.Edits.{sets};
