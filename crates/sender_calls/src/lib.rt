@@ -1,4 +1,6 @@
 // Calls of the sender whose record is in the bytes lent.
+#![tactic(auto)]
+
 ghost use Rattle.std.specs.Prelude.{◌≡◌, ◌≤◌, length};
 ghost use Rattle.offering.specs.Record.{slots_in_range, in_range};
 ghost use Rattle.offering.specs.Offering.{offer_refusal, store_after_offer};
