@@ -1,4 +1,5 @@
 // A framing, and reading with it alone, in bytes.
+#![tactic(auto)]
 
 pub mod call;
 
