@@ -67,7 +67,7 @@ receiver_unpacks r fits rest =
             phase = r.framing.phase;
             ones = r.framing.ones;
             count = r.framing.count;
-            bits = take_at r.framing.bits rest 21 fits.framing.twenty-one i;
+            bits = take_at r.framing.bits rest 21 fits.framing.twenty_one i;
           };
     }
 

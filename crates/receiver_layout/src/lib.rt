@@ -1,4 +1,5 @@
 // A receiver's record, and the answer of reading, in bytes.
+#![tactic(auto)]
 
 pub mod answers;
 
