@@ -56,7 +56,7 @@ module _ (bytes : List ℕ) (long : receiver_length ≤ length bytes) where
 
     -- the framing has 21 bytes
     array : length (receiver_in bytes).framing.bits ≡ 21
-    array = (receiver-fits bytes are long).framing.twenty-one
+    array = (receiver-fits bytes are long).framing.twenty_one
 
     -- a slot's bytes between the others
     place : (at : ℕ) (t : Slot) → at + 6 ≤ 61

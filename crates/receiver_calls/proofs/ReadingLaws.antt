@@ -71,7 +71,7 @@ module _ (bytes store bits : List ℕ) (from to : ℕ) (answer : List ℕ) where
     module _ (long : receiver_length ≤ length bytes) (are : Bytes bytes) (is : is_receiver bytes ≡ true)
         {s : Scan} (e : s ≡ scan (receiver_in bytes).framing from (slice from to (bits_of bits))) where
       pub array : Array21 (receiver_in bytes).framing.bits
-      array = let f = (receiver-fits bytes are long).framing in record { long = f.twenty-one; each = f.bits }
+      array = let f = (receiver-fits bytes are long).framing in record { long = f.twenty_one; each = f.bits }
 
       left : length s.framing.bits ≡ 21
       unfolding read_scan

@@ -1,4 +1,6 @@
 // Reading by the receiver whose record is in bytes: it is judged there, and only what changes is written.
+#![tactic(auto)]
+
 ghost use Rattle.std.specs.Prelude.{◌≡◌, true, List, ◌+◌, ◌*◌, ◌≤◌, ◌<◌, length, take};
 ghost use Rattle.std.proofs.lemmas.List.Edits.{sets};
 ghost use Rattle.parsing.specs.Packets.{lead};
