@@ -1,4 +1,5 @@
 // The record of pass totals in bytes, and the notice in a reading call's answer.
+#![tactic(auto)]
 
 pub mod answers;
 
@@ -15,7 +16,7 @@ use totals::{Figures, Totals};
 pub const LENGTH: usize = 64;
 
 // What the bytes of an answer say: a notice, or nothing where they are the answer of none.
-#[derive(Drop)]
+#[derive(Clone, Copy)]
 pub enum Said {
     AnswerOf(Notice),
     AnswerOfNone,
