@@ -35,8 +35,8 @@ use Rattle.aes18.specs.SenderCalls.{
 use Rattle.aes18.proofs.Clipping.{offer_refusal-clipped, sender_after_offer-clipped, BlockMade_clipped}
 
 -- the number of an answer that a refusal's number gives
-pub number_of : {n k : ℕ} {a : Answer} → k ≡ answer_number a → a ≡ answer_of n → k ≡ n
-number_of {n} e f = e ∙ ap answer_number f ∙ answer_number-answer_of n
+pub number_of_lem : {n k : ℕ} {a : Answer} → k ≡ answer_number a → a ≡ answer_of n → k ≡ n
+number_of_lem {n} e f = e ∙ ap answer_number f ∙ answer_number-answer_of n
 
 -- a choice made twice
 pub cond_twice : (t : Bool) (x y : List ℕ) → cond t x y ≡ cond t (cond t x y) y

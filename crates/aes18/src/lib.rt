@@ -1,6 +1,7 @@
 // The AES18 user-bit channel for C and Rust: the calls of document 01, with enable bits that hold over, packets still to go and added zeros (document 02,
 // asks 4 to 6), pass totals and the serial line (asks 1 and 3), and reading with the framing alone, over records and answers laid out in bytes
 // (include/aes18.h).
+#![tactic(auto)]
 
 ghost use Rattle.std.specs.Prelude.{◌≡◌};
 ghost use Rattle.aes18.specs.SenderCalls as sends;
@@ -20,8 +21,7 @@ use serial::writing::write;
 const NO_ROOM: u32 = 255;
 
 // A sender's record, for the circuits of a list.
-#[unsafe(no_mangle)]
-pub extern "C" fn aes18_sender_list(record: &mut [u8], list: &[u8]) -> u32
+pub fn aes18_sender_list(record: &mut [u8], list: &[u8]) -> u32
     ensures { (result ≡ sends.list_answered «record».old list.now)
         × («record».new ≡ sends.list_record «record».old list.now) }
 {
@@ -36,8 +36,7 @@ pub extern "C" fn aes18_sender_list(record: &mut [u8], list: &[u8]) -> u32
 }
 
 // A message is offered at a circuit.
-#[unsafe(no_mangle)]
-pub extern "C" fn aes18_sender_offer(
+pub fn aes18_sender_offer(
     record: &mut [u8],
     store: &mut [u8],
     circuit: u64,
@@ -58,8 +57,7 @@ pub extern "C" fn aes18_sender_offer(
 }
 
 // A block of n bits, of which u may be used, with a system packet where `system` is not 0. Its enable bits are in force from then on.
-#[unsafe(no_mangle)]
-pub extern "C" fn aes18_sender_block(
+pub fn aes18_sender_block(
     record: &mut [u8],
     store: &[u8],
     n: u64,
@@ -99,8 +97,7 @@ pub extern "C" fn aes18_sender_block(
 }
 
 // A receiver's record, for the circuits of a list.
-#[unsafe(no_mangle)]
-pub extern "C" fn aes18_receiver_list(record: &mut [u8], list: &[u8]) -> u32
+pub fn aes18_receiver_list(record: &mut [u8], list: &[u8]) -> u32
     ensures { (result ≡ receives.list_answered «record».old list.now)
         × («record».new ≡ receives.list_record «record».old list.now) }
 {
@@ -115,8 +112,7 @@ pub extern "C" fn aes18_receiver_list(record: &mut [u8], list: &[u8]) -> u32
 }
 
 // The bits from number `from` up to `to` are read until the first notice.
-#[unsafe(no_mangle)]
-pub extern "C" fn aes18_receiver_read(
+pub fn aes18_receiver_read(
     record: &mut [u8],
     store: &mut [u8],
     bits: &[u8],
@@ -142,8 +138,7 @@ pub extern "C" fn aes18_receiver_read(
 }
 
 // A reading call's answer is noted in a record of pass totals.
-#[unsafe(no_mangle)]
-pub extern "C" fn aes18_totals_note(record: &mut [u8], answer: &[u8]) -> u32
+pub fn aes18_totals_note(record: &mut [u8], answer: &[u8]) -> u32
     ensures { (result ≡ note_answered «record».old answer.now)
         × («record».new ≡ note_record «record».old answer.now) }
 {
@@ -160,8 +155,7 @@ pub extern "C" fn aes18_totals_note(record: &mut [u8], answer: &[u8]) -> u32
 }
 
 // A packet is written as a frame of the serial line.
-#[unsafe(no_mangle)]
-pub extern "C" fn aes18_line_write(packet: &[u8], line: &mut [u8], answer: &mut [u8]) -> u32
+pub fn aes18_line_write(packet: &[u8], line: &mut [u8], answer: &mut [u8]) -> u32
     ensures { (result ≡ line_write_answered packet.now line.old answer.old)
         × (line.new ≡ line_written packet.now line.old answer.old)
         × (answer.new ≡ line_write_answer packet.now line.old answer.old) }
@@ -179,13 +173,7 @@ pub extern "C" fn aes18_line_write(packet: &[u8], line: &mut [u8], answer: &mut 
 }
 
 // The bytes of a serial line are read until the first packet.
-#[unsafe(no_mangle)]
-pub extern "C" fn aes18_line_read(
-    record: &mut [u8],
-    line: &[u8],
-    packet: &mut [u8],
-    answer: &mut [u8],
-) -> u32
+pub fn aes18_line_read(record: &mut [u8], line: &[u8], packet: &mut [u8], answer: &mut [u8]) -> u32
     ensures { (result ≡ line_read_answered «record».old packet.old answer.old)
         × («record».new ≡ line_read_record «record».old line.now packet.old answer.old)
         × (packet.new ≡ line_read_packet «record».old line.now packet.old answer.old)
@@ -212,8 +200,7 @@ pub extern "C" fn aes18_line_read(
 }
 
 // The bits from number `from` up to `to` are read, with the framing alone, until the first body that passes or is spoilt.
-#[unsafe(no_mangle)]
-pub extern "C" fn aes18_framing_read(
+pub fn aes18_framing_read(
     framing: &mut [u8],
     bits: &[u8],
     from: u64,
