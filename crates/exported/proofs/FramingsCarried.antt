@@ -205,9 +205,9 @@ module _ (bytes : List ℕ) (f : Framing) (c : LentFramingRead) (holds : Holds b
         (scan_quiet part f c.from j h)
 
     -- where none is given the bits end
-    all_read : body_given bytes c ≡ [] → s.at ≡ c.to
+    all_read_lem : body_given bytes c ≡ [] → s.at ≡ c.to
     unfolding framing_scan
-    all_read none =
+    all_read_lem none =
         let last : s.at ≡ c.from + length part = none_ends s.check s.bytes s.at (c.from + length part) (sym given_is ∙ none) (scan_ends part f c.from) in
         omega (arith, last, length_part, at_within)
 
@@ -394,7 +394,7 @@ module _ (calls : List LentFramingRead) (c : LentFramingRead) (rest : List ℕ) 
             all =
                 given_up_to_is (number_at 8 (answer_left bytes c) 8)
                 ∙ rw (k_is, taken_part bytes f c then-held short accepted, gives_scan f c.bits c.from c.to, ← given_is bytes f c then-held short accepted, ← given_up_to-none) refl;
-            at_end = λ e. rw k_is (omega (arith, within, all_read bytes f c then-held short accepted e));
+            at_end = λ e. rw k_is (omega (arith, within, all_read_lem bytes f c then-held short accepted e));
           }
 
 -- ---- the framing of a receiver's record

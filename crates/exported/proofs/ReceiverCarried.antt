@@ -59,7 +59,7 @@ receiver-Bytes r fits =
 
 length-receiver_bytes : (r : Receiver) → ReceiverFits r → length (receiver_bytes r) ≡ receiver_length
 unfolding receiver_bytes circuits_bytes circuit_bytes slots_bytes slot_bytes low_bytes framing_bytes
-length-receiver_bytes r fits = rw fits.framing.twenty-one
+length-receiver_bytes r fits = rw fits.framing.twenty_one
 
 -- ---- a record carried
 
@@ -96,10 +96,10 @@ module _ (bytes : List ℕ) (are : Bytes bytes) (room : receiver_length ≤ leng
   list_carries list listed = rw (le-ltb (length bytes) receiver_length room) (written_carried (fresh (listing list)) (fresh-fits list listed))
 
   module _ (is : is_receiver bytes ≡ true) (store bits : List ℕ) (from to : ℕ) (answer : List ℕ) where
-    pub read_number : read_answered bytes store bits from to answer
+    pub read_number_lem : read_answered bytes store bits from to answer
         ≡ cond (leb read_answer_length (length answer)) (read_refusal (receiver_in bytes) store bits from to) no_room
     unfolding read_answered
-    read_number = go (leb read_answer_length (length answer)) refl
+    read_number_lem = go (leb read_answer_length (length answer)) refl
       where
         go : (t : Bool) → leb read_answer_length (length answer) ≡ t
             → read_answered bytes store bits from to answer ≡ cond t (read_refusal (receiver_in bytes) store bits from to) no_room
@@ -121,12 +121,12 @@ module _ (bytes : List ℕ) (are : Bytes bytes) (room : receiver_length ≤ leng
             let inside : length (read_answer_bytes notice count) ≤ length answer = omega (arith, length-read_answer_bytes notice count, leb-true read_answer_length (length answer) e) in
             rw (z, sets_behind [] answer (read_answer_bytes notice count) inside)
             (read_answer_unpacks notice count (omega (arith, bits_read-most r store bits from to, h)) (drop (length (read_answer_bytes notice count)) answer))
-        go false e = absurd (omega (arith, rw e at (sym read_number) ∙ z))
+        go false e = absurd (omega (arith, rw e at (sym read_number_lem) ∙ z))
 
     pub read_carries : Carried bytes (read_record bytes store bits from to answer)
         (cond (leb read_answer_length (length answer)) (receiver_after_read (receiver_in bytes) store bits from to) (receiver_in bytes))
     unfolding read_record receiver_after_read no_room
-    read_carries = go (leb read_answer_length (length answer)) read_number
+    read_carries = go (leb read_answer_length (length answer)) read_number_lem
       where
         go : (t : Bool) → read_answered bytes store bits from to answer ≡ cond t (read_refusal (receiver_in bytes) store bits from to) no_room
             → Carried bytes (read_record bytes store bits from to answer)
@@ -142,7 +142,7 @@ module _ (bytes : List ℕ) (are : Bytes bytes) (room : receiver_length ≤ leng
     pub read-store : read_store bytes store bits from to answer
         ≡ cond (leb read_answer_length (length answer)) (store_after_read (receiver_in bytes) store bits from to) store
     unfolding read_store store_after_read no_room
-    read-store = go (leb read_answer_length (length answer)) read_number
+    read-store = go (leb read_answer_length (length answer)) read_number_lem
       where
         go : (t : Bool) → read_answered bytes store bits from to answer ≡ cond t (read_refusal (receiver_in bytes) store bits from to) no_room
             → read_store bytes store bits from to answer ≡ cond t (store_after_read (receiver_in bytes) store bits from to) store

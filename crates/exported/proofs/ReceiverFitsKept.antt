@@ -123,7 +123,7 @@ noticed-fits Nothing bytes r store are range fits = fits
 
 module _ (r : Receiver) (store bits : List ℕ) (from to : ℕ) (fits : ReceiverFits r) where
   array : Array21 r.framing.bits
-  array = record { long = fits.framing.twenty-one; each = fits.framing.bits }
+  array = record { long = fits.framing.twenty_one; each = fits.framing.bits }
 
   -- a record out of range is left as it is
   out_of_range : in_range r ≡ false → receiver_after_read r store bits from to ≡ r

@@ -17,7 +17,7 @@ use Rattle.aes18.specs.ReceiverCalls.{list_record, read_answered, read_answer}
 use Rattle.exported.specs.Lent.{Lent, LentRead, read_has_room, after_lent_read, after_lent_reads, reads_of}
 use Rattle.exported.proofs.NoRoom.{read_refusal-below, answered_255}
 use Rattle.aes18.proofs.ReceiverOutcomes.{list_short, read_short}
-use Rattle.exported.proofs.ReceiverCarried.{Carried, list_carries, read_number, read_told, read_carries, read-store}
+use Rattle.exported.proofs.ReceiverCarried.{Carried, list_carries, read_number_lem, read_told, read_carries, read-store}
 
 -- what an accepted call tells, in bytes
 abbrev pub answer_of_read : ReceiverEnd → ReadCall → List ℕ
@@ -50,7 +50,7 @@ module _ (bytes : List ℕ) (room : receiver_length ≤ length bytes) where
         ≡ cond (read_has_room c) (read_refusal s.receiver s.store c.call.bytes c.call.from c.call.to) no_room
     unfolding read_has_room
     call_number =
-        read_number e.bytes h.receiver.each still h.receiver.is e.store c.call.bytes c.call.from c.call.to c.answer
+        read_number_lem e.bytes h.receiver.each still h.receiver.is e.store c.call.bytes c.call.from c.call.to c.answer
         ∙ ap (λ (s : ReceiverEnd). cond (read_has_room c) (read_refusal s.receiver s.store c.call.bytes c.call.from c.call.to) no_room) same
 
     -- and 255 is answered where it has no room, and nowhere else
