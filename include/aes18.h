@@ -5,7 +5,7 @@
  * notice. Totals, kept beside a receiver, are what the notices of a pass add up to at each circuit. A framing lists nothing: it reads bits, cut
  * anywhere, up to the next packet of whatever circuit, as one looks for the circuits in bits that nobody described. Apart from the user bits, packets
  * are written to a serial line and read from one: that to a telemetry terminal, in the octet-stuffed frames of RFC 1662. These are the functions of
- * the static library libaes18.a for x86-64, which `rt staticlib aes18` proves and writes; docs/PROOFS.md says what is proved of them. Document 01 is
+ * the static library libaes18.a for x86-64, which `tools/staticlib` has proved and writes; docs/PROOFS.md says what is proved of them. Document 01 is
  * the specification: refusals have its numbers, and its words stand in quotation marks. The totals are those of document 02, ask 1; the serial line,
  * with refusals 16 and 17, is that of its ask 3; that enable bits hold over from block to block is its ask 4; the packets still to go in a sender's
  * record are those of its ask 5, and the stuffed zeros in a block's answer those of its ask 6. No document asks for the framing's call; what it reads

@@ -1,5 +1,5 @@
 //! Finds the proved static library libaes18.a and tells cargo to link it: the one in the folder that AES18_ARCHIVE names, or else the one
-//! that `rt staticlib aes18` makes in the repository around this package.
+//! that `tools/staticlib` makes in the repository around this package.
 
 use std::path::{Path, PathBuf};
 use std::process::{exit, Command};
@@ -36,27 +36,36 @@ fn repository() -> PathBuf {
     package.parent().map(Path::to_path_buf).unwrap_or(package)
 }
 
-/// Has the toolchain prove the crate `aes18` and write its archive, and answers the archive's folder.
+/// Has the toolchain prove the crate `aes18_c` and write its archive, and answers the archive's folder.
 fn made(root: &Path) -> PathBuf {
-    for part in ["crates", "crates.txt"] {
-        println!("cargo:rerun-if-changed={}", root.join(part).display());
+    println!("cargo:rerun-if-changed={}", root.join("crates.txt").display());
+    // Not the folder `out` of a crate, which rt writes.
+    for part in sources(&root.join("crates")) {
+        println!("cargo:rerun-if-changed={}", part.display());
     }
-    let mut command = Command::new("rt");
-    match command
-        .args(["staticlib", "aes18"])
-        .current_dir(root)
-        .status()
-    {
+    if let Err(error) = Command::new("rt").arg("version").output() {
+        if error.kind() == io::ErrorKind::NotFound {
+            fail(
+                "the command 'rt' of the Rattle toolchain is not on the PATH; \
+                 install it, or set AES18_ARCHIVE to the folder of a libaes18.a already made",
+            );
+        }
+        fail(&format!("the command 'rt' cannot be run: {error}"));
+    }
+    let mut command = Command::new(root.join("tools").join("staticlib"));
+    match command.current_dir(root).status() {
         Ok(status) if status.success() => root.join("target").join("staticlib"),
-        Ok(status) => fail(&format!(
-            "the command 'rt staticlib aes18' ended with {status}"
-        )),
-        Err(error) if error.kind() == io::ErrorKind::NotFound => fail(
-            "the command 'rt' of the Rattle toolchain is not on the PATH; \
-             install it, or set AES18_ARCHIVE to the folder of a libaes18.a already made",
-        ),
-        Err(error) => fail(&format!("the command 'rt' cannot be run: {error}")),
+        Ok(status) => fail(&format!("the command 'tools/staticlib' ended with {status}")),
+        Err(error) => fail(&format!("the command 'tools/staticlib' cannot be run: {error}")),
     }
+}
+
+/// The folders that hold what is proved, of each crate.
+fn sources(crates: &Path) -> Vec<PathBuf> {
+    let listed = crates.read_dir().map(|found| found.flatten().collect::<Vec<_>>());
+    let crates = listed.unwrap_or_default();
+    let parts = crates.iter().flat_map(|one| ["src", "specs", "proofs"].map(|part| one.path().join(part)));
+    parts.filter(|part| part.is_dir()).collect()
 }
 
 /// Ends the build with a message.

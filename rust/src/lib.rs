@@ -64,7 +64,7 @@
 //! # Linking
 //!
 //! The build script links the proved static library `libaes18.a`: the one in the folder that the environment variable `AES18_ARCHIVE` names, or
-//! else the one that `rt staticlib aes18` proves and writes in the repository around this package. A relative `AES18_ARCHIVE` starts at this
+//! else the one that `tools/staticlib` proves and writes in the repository around this package. A relative `AES18_ARCHIVE` starts at this
 //! package's folder. It has to be of this version: an earlier one takes a sender's record too and lays it out otherwise, without the packets still to go,
 //! or leaves the stuffed zeros of every block 0.
 
