@@ -9,7 +9,7 @@ import pathlib
 import re
 import subprocess
 
-KIT = pathlib.Path("/opt/rattle/rattle")
+KIT = pathlib.Path(subprocess.run(["rt", "doc"], capture_output=True, text=True, check=True).stdout.strip()).parent / "rattle"
 NAME = re.compile(r"(?<![\w'-])[A-Za-z_][\w']*(?:-[\w']+)*")
 CAMEL = re.compile(r"^[a-z][A-Za-z0-9']*[A-Z][A-Za-z0-9']*$")
 DECLARED = re.compile(r"^\s*(?:(?:abbrev|unfoldable|pub)\s+)*([A-Za-z][\w'-]*)\s*:(?!=)")
