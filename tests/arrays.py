@@ -1,6 +1,6 @@
 """The framer "is to hold no packet or FCS in an array before stuffing" (document 02, ask 2), and none comes back: in what the compiler makes of the sources
 of `sender` and of every crate below it (rt check --generated), no parameter, result, local or field is an array, whatever its elements, but of circuits and of slots, a
-record's circuits as a list's bytes, and the one into which a frame is stuffed to measure it.
+record's circuits as a list's bytes, the one into which a frame is stuffed to measure it, and the names that a derived Debug writes.
 Before that the same is asked of functions that are known to have an array or none.
 """
 import pathlib
@@ -17,7 +17,10 @@ OTHERS = {"[%s; 4]" % name for name in ("packet::Circuit", "offering::Slot")}
 # Arrays in named functions. Where a frame is measured, its bits are stuffed into an array: it has the packet and the FCS after stuffing alone.
 # A record's circuits are judged and looked for as a list's bytes.
 NAMED = {"sender::blocks::fits": "[u8; 27]"}
-NAMED.update({"packet::Circuits::" + name: "[u8; 12]" for name in ("bytes", "number_of", "refusal")})
+NAMED.update({"packet::Circuits::" + name: "[u8; 12]" for name in ("bytes", "number_of", "check")})
+
+# A derived Debug has the names of a type and of its fields or variants as text.
+NAMED.update({"packet::CircuitDebug::fmt": "[u8; 36]", "packet::LinkDebug::fmt": "[u8; 25]", "packet::RefusalDebug::fmt": "[u8; 208]", "sender::BlockDebug::fmt": "[u8; 25]"})
 
 # Functions that have an array, and functions that have none.
 WITH = """

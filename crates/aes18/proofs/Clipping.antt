@@ -2,10 +2,13 @@
 use Prim.Native.Nat.{ℕ, ◌≤◌, ◌<◌, min}
 use mathlib.Core.Bool.{Bool, true, false, cond}
 use mathlib.Core.List.{List}
-use mathlib.Core.Path.{◌≡◌, refl, ◌∙◌}
+use mathlib.Core.Path.{◌≡◌, refl, ap, ◌∙◌}
 use native.Mathlib.Omega.{arith}
 use borrow.Author.Tests.{ltb-true, ltb-false, lt-ltb, le-ltb, eqb-true}
 use lib.Dec.{ltb, eqb}
+use Rattle.std.specs.Prelude.{Result}
+use Rattle.packet.specs.declared.Refusal.{Refusal}
+use Rattle.packet.specs.Answers.{answer_of}
 use Rattle.offering.specs.declared.Sender.{Sender}
 use Rattle.offering.specs.Offering.{offer_refusal, offered_sender, sender_after_offer}
 use Rattle.sender.specs.Blocks.{System, system_packets, enable_bits, wrong_system, block_refusal, sender_after_block, buffer_after_block}
@@ -66,7 +69,7 @@ module _ (s : Sender) (store buffer : List ℕ) (n u : ℕ) (w : Bool) (e c : �
       go false a = (refl, refl)
 
 -- a block call answers and leaves the same
-pub BlockMade_clipped : (bytes store : List ℕ) (n u : ℕ) (w : Bool) (e c : ℕ) (i block answer : List ℕ) {number : ℕ} {new new_block new_answer : List ℕ}
+pub BlockMade_clipped : (bytes store : List ℕ) (n u : ℕ) (w : Bool) (e c : ℕ) (i block answer : List ℕ) {number : Result (Unit {0}) Refusal} {new new_block new_answer : List ℕ}
     → BlockMade bytes store n u (clipped_system w e c i) block answer number new new_block new_answer
     → BlockMade bytes store n u (system w e c i) block answer number new new_block new_answer
 unfolding record_after_block buffer_after_block answer_after_block sender_after_block
@@ -83,5 +86,5 @@ BlockMade_clipped bytes store n u w e c i block answer {number} {new} {new_block
         → BlockMade bytes store n u (system w e c i) block answer number new new_block new_answer
     go true h =
         let (same-e, same-o) = same_system s store block n u w e c i (eqb-true _ 0 h) in
-        (refusal ∙ same, record_is ∙ rw (same, same-e, same-o), block-is ∙ rw (same, same-e, same-o), answer_is ∙ rw (same, same-e, same-o))
-    go false h = (refusal ∙ same, record_is ∙ rw (same, h), block-is ∙ rw (same, h), answer_is ∙ rw (same, h))
+        (refusal ∙ ap answer_of same, record_is ∙ rw (same, same-e, same-o), block-is ∙ rw (same, same-e, same-o), answer_is ∙ rw (same, same-e, same-o))
+    go false h = (refusal ∙ ap answer_of same, record_is ∙ rw (same, h), block-is ∙ rw (same, h), answer_is ∙ rw (same, h))

@@ -4,7 +4,7 @@ use Rattle.std.specs.Prelude.{ℕ, cond, ◌||◌, List, length, take, ltb, eqb}
 use Rattle.std.proofs.lemmas.List.Edits.{sets}
 use Rattle.serial.specs.Octets.{line_frame}
 use Rattle.serial.specs.Writing.{write_refusal, output_after}
-use Rattle.serial.specs.Machine.{reading}
+use Rattle.serial.specs.Machine.{reading, length_given}
 use Rattle.layout.specs.Layout.{packet_length}
 use Rattle.serial_layout.specs.LineBytes.{line_length, line_bytes, line_in, line_write_length, line_write_bytes, line_read_length, line_read_bytes}
 use Rattle.aes18.specs.Room.{no_room}
@@ -38,9 +38,9 @@ line_read_record bytes line packet answer =
 unfoldable pub line_read_packet : List ℕ → List ℕ → List ℕ → List ℕ → List ℕ
 line_read_packet bytes line packet answer =
     let r = reading (line_in bytes) line in
-    cond (eqb (line_read_answered bytes packet answer) 0) (sets packet 0 (take r.length r.frame)) packet
+    cond (eqb (line_read_answered bytes packet answer) 0) (sets packet 0 (take (length_given r) r.frame)) packet
 
 unfoldable pub line_read_answer : List ℕ → List ℕ → List ℕ → List ℕ → List ℕ
 line_read_answer bytes line packet answer =
     let r = reading (line_in bytes) line in
-    cond (eqb (line_read_answered bytes packet answer) 0) (sets answer 0 (line_read_bytes r.length r.read)) answer
+    cond (eqb (line_read_answered bytes packet answer) 0) (sets answer 0 (line_read_bytes (length_given r) r.read)) answer

@@ -12,15 +12,18 @@ ghost use Rattle.aes18.specs.FramingCalls.{framing_read_answered, framing_read_r
 ghost use Rattle.aes18.specs.LineCalls.{line_write_answered, line_written, line_write_answer, line_read_answered, line_read_record, line_read_packet, line_read_answer};
 
 use layout::{answer_number, clipped, put_number};
-use offering::Sender;
+use offering::{Offer, Sender};
+use packet::Refusal;
 use receiver::Receiver;
-use serial::Written;
+use sender::{BlockRequest, SystemPacket};
 use serial::writing::write;
 
 // The answer where a record, a packet's place or an answer is shorter than it has to be.
+// Stays: (a) a number, and a test in each call: C takes a call's answer as a number (include/aes18.h, and the contracts' `no_room`).
 const NO_ROOM: u32 = 255;
 
 // A sender's record, for the circuits of a list.
+#[tactic(auto, using(crate::proofs::Numbers::number_listed), unfolding(crate::specs::Room::no_room, crate::specs::SenderCalls::list_answered, crate::specs::SenderCalls::list_record))]
 pub fn aes18_sender_list(record: &mut [u8], list: &[u8]) -> u32
     ensures { (result ≡ sends.list_answered «record».old list.now)
         × («record».new ≡ sends.list_record «record».old list.now) }
@@ -29,13 +32,12 @@ pub fn aes18_sender_list(record: &mut [u8], list: &[u8]) -> u32
         return NO_ROOM;
     }
     let listed = Sender::list(list);
-    let answer = listed.answer;
-    let sender = listed.sender;
-    sender_layout::put_sender(record, sender);
-    answer_number(answer)
+    sender_layout::put_sender(record, listed.record);
+    answer_number(listed.answer)
 }
 
 // A message is offered at a circuit.
+#[tactic(auto, unfolding(crate::specs::Room::no_room, crate::specs::SenderCalls::offer_answered, crate::specs::SenderCalls::offer_record, crate::specs::SenderCalls::offer_store))]
 pub fn aes18_sender_offer(
     record: &mut [u8],
     store: &mut [u8],
@@ -51,12 +53,18 @@ pub fn aes18_sender_offer(
     if record.len() < sender_layout::LENGTH {
         return NO_ROOM;
     }
-    let p = clipped(priority);
-    let r = clipped(repetition);
-    sender_calls::offer(record, store, circuit as usize, p, r, message)
+    let offer = Offer {
+        circuit: circuit as usize,
+        priority: clipped(priority),
+        repetition: clipped(repetition),
+        message,
+    };
+    answer_number(sender_calls::offer(record, store, offer))
 }
 
 // A block of n bits, of which u may be used, with a system packet where `system` is not 0. Its enable bits are in force from then on.
+// Stays: (a) `system` beside three numbers, and ten parameters: they are those of the function for C (include/aes18.h).
+#[tactic(auto, unfolding(crate::specs::Room::no_room, crate::specs::SenderCalls::block_answered, crate::specs::SenderCalls::block_record, crate::specs::SenderCalls::block_written, crate::specs::SenderCalls::block_answer))]
 pub fn aes18_sender_block(
     record: &mut [u8],
     store: &[u8],
@@ -80,23 +88,21 @@ pub fn aes18_sender_block(
     if answer.len() < sender_layout::ANSWER {
         return NO_ROOM;
     }
-    let e = clipped(enable);
-    let c = clipped(code);
-    sender_calls::block(
-        record,
-        store,
-        n as usize,
-        u as usize,
-        system != 0,
-        e,
-        c,
-        info,
-        block,
-        answer,
-    )
+    let packet = SystemPacket {
+        enable: clipped(enable),
+        code: clipped(code),
+        information: info,
+    };
+    let request = BlockRequest {
+        n: n as usize,
+        u: u as usize,
+        system: (system != 0).then_some(packet),
+    };
+    answer_number(sender_calls::block(record, store, &request, block, answer))
 }
 
 // A receiver's record, for the circuits of a list.
+#[tactic(auto, using(crate::proofs::Numbers::number_listed), unfolding(crate::specs::Room::no_room, crate::specs::ReceiverCalls::list_answered, crate::specs::ReceiverCalls::list_record))]
 pub fn aes18_receiver_list(record: &mut [u8], list: &[u8]) -> u32
     ensures { (result ≡ receives.list_answered «record».old list.now)
         × («record».new ≡ receives.list_record «record».old list.now) }
@@ -105,13 +111,12 @@ pub fn aes18_receiver_list(record: &mut [u8], list: &[u8]) -> u32
         return NO_ROOM;
     }
     let listed = Receiver::list(list);
-    let answer = listed.answer;
-    let receiver = listed.receiver;
-    receiver_layout::put_receiver(record, receiver);
-    answer_number(answer)
+    receiver_layout::put_receiver(record, listed.record);
+    answer_number(listed.answer)
 }
 
 // The bits from number `from` up to `to` are read until the first notice.
+#[tactic(auto, using(crate::proofs::Numbers::number_read), unfolding(crate::specs::Room::no_room, crate::specs::ReceiverCalls::read_answered, crate::specs::ReceiverCalls::read_record, crate::specs::ReceiverCalls::read_store, crate::specs::ReceiverCalls::read_answer, packet::specs::Answers::refusal_number, receiver_calls::specs::Reading::record_after_read, receiver::specs::Reading::store_after_read, receiver_calls::specs::Reading::answer_after_read))]
 pub fn aes18_receiver_read(
     record: &mut [u8],
     store: &mut [u8],
@@ -132,12 +137,14 @@ pub fn aes18_receiver_read(
         return NO_ROOM;
     }
     if !receiver_layout::is_receiver(record) {
-        return 14;
+        return u32::from(Refusal::OutOfRange);
     }
-    receiver_calls::read(record, store, bits, from as usize, to as usize, answer)
+    let read = receiver_calls::read(record, store, bits, from as usize, to as usize, answer);
+    answer_number(read)
 }
 
 // A reading call's answer is noted in a record of pass totals.
+#[tactic(auto, unfolding(crate::specs::Room::no_room, crate::specs::TotalsCalls::note_answered, crate::specs::TotalsCalls::note_record))]
 pub fn aes18_totals_note(record: &mut [u8], answer: &[u8]) -> u32
     ensures { (result ≡ note_answered «record».old answer.now)
         × («record».new ≡ note_record «record».old answer.now) }
@@ -155,6 +162,7 @@ pub fn aes18_totals_note(record: &mut [u8], answer: &[u8]) -> u32
 }
 
 // A packet is written as a frame of the serial line.
+#[tactic(auto, using(crate::proofs::Numbers::frame_written, crate::proofs::Numbers::frame_refused), unfolding(crate::specs::Room::no_room, crate::specs::LineCalls::line_write_answered, crate::specs::LineCalls::line_written, crate::specs::LineCalls::line_write_answer, serial_layout::specs::LineBytes::line_write_bytes, serial::specs::Writing::output_after))]
 pub fn aes18_line_write(packet: &[u8], line: &mut [u8], answer: &mut [u8]) -> u32
     ensures { (result ≡ line_write_answered packet.now line.old answer.old)
         × (line.new ≡ line_written packet.now line.old answer.old)
@@ -164,15 +172,16 @@ pub fn aes18_line_write(packet: &[u8], line: &mut [u8], answer: &mut [u8]) -> u3
         return NO_ROOM;
     }
     match write(packet, line) {
-        Written::Frame(n) => {
+        Ok(n) => {
             put_number(answer, 0, serial_layout::WRITE_ANSWER, n);
             0
         }
-        Written::Refused(number) => number as u32,
+        Err(refusal) => u32::from(refusal),
     }
 }
 
 // The bytes of a serial line are read until the first packet.
+#[tactic(auto, using(crate::proofs::LineReading::read_fits), unfolding(crate::specs::Room::no_room, crate::specs::LineCalls::line_read_answered, crate::specs::LineCalls::line_read_record, crate::specs::LineCalls::line_read_packet, crate::specs::LineCalls::line_read_answer, serial::specs::Machine::length_given))]
 pub fn aes18_line_read(record: &mut [u8], line: &[u8], packet: &mut [u8], answer: &mut [u8]) -> u32
     ensures { (result ≡ line_read_answered «record».old packet.old answer.old)
         × («record».new ≡ line_read_record «record».old line.now packet.old answer.old)
@@ -189,17 +198,15 @@ pub fn aes18_line_read(record: &mut [u8], line: &[u8], packet: &mut [u8], answer
         return NO_ROOM;
     }
     let reading = serial_layout::line_in(record).read(line);
-    let after = reading.line;
-    let frame = reading.frame;
-    let length = reading.length;
-    let read = reading.read;
-    serial_layout::put_line(record, after);
-    layout::put_packet(packet, frame, length);
-    serial_layout::put_read_answer(answer, length, read);
+    let length = reading.packet.unwrap_or(0);
+    serial_layout::put_line(record, reading.line);
+    layout::put_packet(packet, reading.frame, length);
+    serial_layout::put_read_answer(answer, length, reading.read);
     0
 }
 
 // The bits from number `from` up to `to` are read, with the framing alone, until the first body that passes or is spoilt.
+#[tactic(auto, using(crate::proofs::Numbers::number_framed), unfolding(crate::specs::Room::no_room, crate::specs::FramingCalls::framing_short, crate::specs::FramingCalls::framing_read_answered, crate::specs::FramingCalls::framing_read_record, crate::specs::FramingCalls::framing_read_packet, crate::specs::FramingCalls::framing_read_answer))]
 pub fn aes18_framing_read(
     framing: &mut [u8],
     bits: &[u8],
@@ -222,5 +229,13 @@ pub fn aes18_framing_read(
     if answer.len() < framing_layout::ANSWER {
         return NO_ROOM;
     }
-    framing_layout::call::read(framing, bits, from as usize, to as usize, packet, answer)
+    let read = framing_layout::call::read(
+        framing,
+        bits,
+        from as usize,
+        to as usize,
+        packet,
+        answer,
+    );
+    answer_number(read)
 }

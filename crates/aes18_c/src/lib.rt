@@ -1,4 +1,5 @@
 // The static library for C and Rust: each function of the crate aes18, called with C's conventions under its own name (include/aes18.h).
+// Stays: (a) a twin of each function of aes18: a crate is a library or a static library, and C finds each under its own name.
 #![tactic(auto)]
 
 ghost use Rattle.std.specs.Prelude.{◌≡◌};

@@ -1,12 +1,11 @@
 -- Laws of lists: a stretch written over a list (the kit's `sets`), lists that are filled up with one element, and lists joined.
 use mathlib.Core.Path.{◌≡◌, refl, sym, ap, ◌∙◌}
-use Prim.Native.Nat.{ℕ, zero, suc, ◌+◌, ◌-◌, ◌≤◌, ◌<◌}
+use Prim.Native.Nat.{ℕ, zero, suc, ◌+◌, ◌-◌, ◌≤◌}
 use native.Mathlib.Nat.{add-zero, zero-add, add-suc, suc-add, sub-zero, zero-sub, suc-sub-suc}
-use native.Mathlib.Numerals.{add-one}
 use native.Mathlib.Omega.{arith}
 use mathlib.Core.List.{List, [], ◌∷◌, ◌++◌, flatten, append_assoc, append-nil}
-use lib.ListN.{length, take, drop, get_or, set, replicate, length-append, length-drop, length-replicate, drop_of_length-le, take-append-drop, replicate-append-replicate}
-use lib.Seq.{sets, sets-eq, take-set-le, take-set-lt, drop-set-lt, drop-set-add, take-suc, take_all, take-append_seam, drop-append-add, length-take-le}
+use lib.ListN.{length, take, drop, set, replicate, length-append, length-drop, length-replicate, drop_of_length-le, take-append-drop, replicate-append-replicate}
+use lib.Seq.{sets, sets-eq, take-set-le, take-set-lt, drop-set-lt, drop-set-add, take_all, take-append_seam, drop-append-add, drop-drop, length-take-le}
 
 module _ {ℓ} {A : Type ℓ} where
   -- two stretches in turn are written as one
@@ -62,11 +61,11 @@ module _ {ℓ} {A : Type ℓ} where
   sets_append_add x y n [] = refl
   sets_append_add x y n (b ∷ v) = rw (set_append_add, ← add-suc) (sets_append_add x (set y n b) (suc n) v)
 
-  -- one more element copied
-  pub sets_take : (d s : List A) (i : ℕ) (z : A) → i < length s → set (sets d 0 (take i s)) i (get_or s i z) ≡ sets d 0 (take (i + 1) s)
-  sets_take d s i z h =
-      let front : length (take i s) ≡ i = length-take-le i s (omega arith) in
-      rw (add-one, take-suc s i z, sets_append d 0 (take i s) (get_or s i z ∷ []), zero-add, front)
+  -- a stretch in the place of as many elements
+  pub sets_mid : (l v : List A) (a k : ℕ) → length v ≡ k → a + k ≤ length l → take a l ++ (v ++ drop k (drop a l)) ≡ sets l a v
+  sets_mid l v a k e h =
+      let fits : a + length v ≤ length l = omega arith in
+      sym (sets-eq v l a fits ∙ rw (e, ← drop-drop k a l, append_assoc))
 
   -- a list whose part from a on has v written at n: v is written at a + n
   pub sets_part_at : (a n : ℕ) (l v p : List A) → a ≤ length l → p ≡ sets (take (length l - a) (drop a l)) n v

@@ -31,13 +31,7 @@ pub fn get_bit(s: &[u8], at: usize) -> bool
 pub fn past(bytes: &[u8], to: usize) -> bool
     ensures { result ≡ ltb (8 * length bytes.now) to }
 {
-    if bytes.len() < to / 8 {
-        return true;
-    }
-    if to / 8 < bytes.len() {
-        return false;
-    }
-    to % 8 != 0
+    bytes.len() < to.div_ceil(8)
 }
 
 // The byte with its bit k, below 8, set to `bit`.
@@ -63,10 +57,8 @@ pub fn put_run(s: &mut [u8], at: usize, n: usize, bit: bool)
     requires { (at + n ≤ 8 * length s.old) × (at + n < 2 ^ 64) }
     ensures { bits_of s.new ≡ sets (bits_of s.old) at (replicate n bit) }
 {
-    let mut i = 0;
-    while i < n {
+    for i in 0..n {
         put_bit(s, at + i, bit);
-        i += 1;
     }
 }
 
@@ -85,11 +77,7 @@ fn put_bytes(s: &mut [u8], from: usize, n: usize, byte: u8)
     requires { from + n ≤ length s.old }
     ensures { s.new ≡ sets s.old from (replicate n byte) }
 {
-    let mut k = 0;
-    while k < n {
-        s[from + k] = byte;
-        k += 1;
-    }
+    s[from..from + n].fill(byte);
 }
 
 // The n bits from bit `at` on become `bit`, as many as they are: those before the first whole byte, the whole bytes, and those behind them.

@@ -29,6 +29,7 @@ impl<'a> BitReader<'a> {
 }
 
 // Bit `at` of lent bytes, through a reader. Its contract says nothing of a reader.
+// Stays: (a) a twin of `get_bit`: document 01 names the bit reader, which is taken apart to call the covered function; this alone calls `next_bit`.
 pub fn bit_at(bytes: &[u8], at: usize) -> bool
     requires { at < 8 * length bytes.now }
     ensures { result ≡ get_or (bits_of bytes.now) at false }

@@ -9,11 +9,7 @@ pub fn copy_in(dst: &mut [u8], src: &[u8])
     requires { length src.now ≤ length dst.old }
     ensures { dst.new ≡ sets dst.old 0 src.now }
 {
-    let mut k = 0;
-    while k < src.len() {
-        dst[k] = src[k];
-        k += 1;
-    }
+    copy_at(dst, 0, src);
 }
 
 // The bytes of src go to dst from byte `at` on.
@@ -21,5 +17,5 @@ pub fn copy_at(dst: &mut [u8], at: usize, src: &[u8])
     requires { at + length src.now ≤ length dst.old }
     ensures { dst.new ≡ sets dst.old at src.now }
 {
-    copy_in(&mut dst[at..], src);
+    dst[at..at + src.len()].copy_from_slice(src);
 }

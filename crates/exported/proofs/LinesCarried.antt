@@ -1,10 +1,10 @@
 -- The exported calls of the serial line are document 02's: they put the same bytes on a line, and from any record's bytes they give the same packets.
-use Prim.Native.Nat.{ℕ, ◌^◌, ◌≤◌, ◌<◌}
+use Prim.Native.Nat.{ℕ, suc, ◌-◌, ◌^◌, ◌≤◌, ◌<◌}
 use mathlib.Core.Bool.{Bool, true, false, cond, ◌&&◌, ◌||◌}
 use mathlib.Core.List.{List, [], ◌∷◌, ◌++◌, append_assoc}
 use mathlib.Core.Path.{◌≡◌, refl, sym, ap, ◌∙◌}
 use native.Mathlib.Omega.{arith}
-use borrow.Author.Tests.{ltb-false, le-ltb, lt-ltb, leb-true, leb-false}
+use borrow.Author.Tests.{ne_eqb, ltb-false, le-ltb, lt-ltb, leb-true, leb-false}
 use lib.ListN.{length, take, drop, replicate, length-append, length-replicate}
 use lib.Seq.{sets, take_at, length-sets, length-take-le}
 use lib.Dec.{leb, ltb, eqb}
@@ -12,13 +12,15 @@ use Rattle.bits.proofs.Lists.{sets_front}
 use Rattle.bits.proofs.Tests.{and_right}
 use Rattle.layout.specs.Layout.{low_bytes, number_at, packet_length}
 use Rattle.layout.proofs.Parts.{number_unpacks, number_after, length-low_bytes}
-use Rattle.serial.specs.declared.Written.TheVariants.{Frame, Refused}
-use Rattle.serial.specs.Octets.{line_frame, fits}
+use Rattle.packet.specs.Answers.{refusal_of, answered}
+use Rattle.serial.specs.declared.Line.{Line}
+use Rattle.serial.specs.declared.Reading.{Reading}
+use Rattle.serial.specs.Octets.{is_flag, line_frame, fits}
 use Rattle.serial.specs.Writing.{worst_case, output_after, bytes_written, sent, packets_sent}
 use Rattle.serial.specs.Writing as serial
 use Rattle.serial.specs.Frames.{packets_in}
-use Rattle.serial.specs.Machine.{fresh, reading, packet_given, packets_read, bytes_read}
-use Rattle.serial.proofs.Stepping.{reading-length}
+use Rattle.serial.specs.Machine.{fresh, step, passes, ended, stopped, read_on, reading, packet_of, packet_given, length_given, packets_read, bytes_read}
+use Rattle.serial.proofs.Stepping.{passes-least, reading-length}
 use Rattle.serial.proofs.Writes.{write_cases}
 use Rattle.serial.proofs.ReadBack.{length-line_frame, writes_read}
 use Rattle.serial.proofs.ReadCalls.{reading_long, read_within, reads_declared}
@@ -50,7 +52,7 @@ module _ (p line answer : List ℕ) where
   put_roomless e = rw (lt-ltb (length answer) line_write_length (leb-false line_write_length (length answer) e))
 
   put_room : leb line_write_length (length answer) ≡ true → Put ≡ bytes_written (serial.write_answer p line) (output_after p line)
-  unfolding line_write_answered line_write_answer line_written serial.write_answer output_after bytes_written worst_case
+  unfolding line_write_answered line_write_answer line_written serial.write_answer output_after bytes_written answered worst_case
   put_room e =
       let room : line_write_length ≤ length answer = leb-true line_write_length (length answer) e in
       rw (le-ltb (length answer) line_write_length room)
@@ -59,7 +61,7 @@ module _ (p line answer : List ℕ) where
       cond (eqb n 0)
       (take (number_at 8 (cond (eqb n 0) (sets answer 0 (line_write_bytes (length (line_frame p)))) answer) 0)
       (cond (eqb n 0) (cond (eqb n 0) (sets line 0 (line_frame p)) line) line)) []
-      ≡ bytes_written (cond (eqb n 0) (Frame (length (line_frame p))) (Refused n)) (cond (eqb n 0) (sets line 0 (line_frame p)) line))
+      ≡ bytes_written (answered n (length (line_frame p))) (cond (eqb n 0) (sets line 0 (line_frame p)) line))
       (λ f h. ap (λ (n : ℕ). take n (sets line 0 (line_frame p))) (write-told (length (line_frame p)) answer room (short f)))
       refl refl)
     where
@@ -92,6 +94,21 @@ place_front n frame place inside room =
     let long : length (take n frame) ≡ n = length-take-le n frame inside in
     rw (sets_front place (take n frame) (omega (arith, long))) (take_at (take n frame) _ n long)
 
+-- a packet that a flag ends has bytes, so that the length 0 tells of none
+read_on-given : (l : Line) (n : ℕ) (bs : List ℕ)
+    → packet_given (read_on l n bs) ≡ cond (eqb (length_given (read_on l n bs)) 0) [] (take (length_given (read_on l n bs)) (read_on l n bs).frame ∷ [])
+unfolding read_on ended stopped packet_given packet_of length_given
+read_on-given l n [] = refl
+read_on-given l n (b ∷ bs) = go (is_flag b) (passes l) refl (read_on-given (step l b) (suc n) bs)
+  where
+    Told : Reading → Type 0
+    Told r = packet_given r ≡ cond (eqb (length_given r) 0) [] (take (length_given r) r.frame ∷ [])
+
+    go : (s t : Bool) → passes l ≡ t → Told (read_on (step l b) (suc n) bs) → Told (cond {A = Reading} (s && t) (stopped l (suc n)) (read_on (step l b) (suc n) bs))
+    go true true e h = rw (ne_eqb (l.count - 2) 0 (λ z. omega (arith, passes-least l e)))
+    go true false e h = h
+    go false t e h = h
+
 -- the packets of a call
 abbrev Given : List ℕ → List ℕ → List ℕ → List ℕ → List (List ℕ)
 Given bytes line place answer =
@@ -115,16 +132,18 @@ module _ (bytes line place answer : List ℕ) (h : line_length ≤ length bytes)
     accepted = rw (le-ltb (length bytes) line_length h, le-ltb (length place) packet_length p, le-ltb (length answer) line_read_length a)
 
     given_room : Given bytes line place answer ≡ packet_given (reading (line_in bytes) line)
-    unfolding line_read_answer line_read_packet packet_of_length packet_given
+    unfolding line_read_answer line_read_packet packet_of_length reading
     given_room =
         let r = reading (line_in bytes) line in
-        let short : r.length ≤ 19 = reading-length (line_in bytes) line in
+        let n = length_given r in
+        let short : n ≤ 19 = reading-length (line_in bytes) line in
         let frame : length r.frame ≡ 21 = (reading_long (line_in bytes) line (line_long bytes h)).1 in
         rw (
           accepted,
-          read_told r.length r.read answer a (omega arith),
-          place_front r.length r.frame place (omega arith) (omega arith),
+          read_told n r.read answer a (omega arith),
+          place_front n r.frame place (omega arith) (omega arith),
         )
+        (sym (read_on-given (line_in bytes) 0 line))
 
     record_room : line_read_record bytes line place answer ≡ line_bytes (reading (line_in bytes) line).line ++ drop line_length bytes
     unfolding line_read_record
@@ -214,7 +233,7 @@ pub line-read-told : (bytes line place answer : List ℕ) → line_read_answered
 unfolding line_read_answer line_read_bytes
 line-read-told bytes line place answer accepted few =
     let r = reading (line_in bytes) line in
-    let long : length (low_bytes 8 r.length ++ low_bytes 8 r.read) ≡ 16 = rw (length-append, length-low_bytes, length-low_bytes) in
-    rw (accepted, sets_front answer (low_bytes 8 r.length ++ low_bytes 8 r.read) (omega (arith, long, answer_room bytes place answer accepted)), append_assoc)
-    (number_after 8 (low_bytes 8 r.length) (low_bytes 8 r.read ++ drop (length (low_bytes 8 r.length ++ low_bytes 8 r.read)) answer) 8 (length-low_bytes 8 r.length)
+    let long : length (low_bytes 8 (length_given r) ++ low_bytes 8 r.read) ≡ 16 = rw (length-append, length-low_bytes, length-low_bytes) in
+    rw (accepted, sets_front answer (low_bytes 8 (length_given r) ++ low_bytes 8 r.read) (omega (arith, long, answer_room bytes place answer accepted)), append_assoc)
+    (number_after 8 (low_bytes 8 (length_given r)) (low_bytes 8 r.read ++ drop (length (low_bytes 8 (length_given r) ++ low_bytes 8 r.read)) answer) 8 (length-low_bytes 8 (length_given r))
     ∙ number_unpacks 8 r.read (omega (arith, read_within (line_in bytes) line)) _)

@@ -2,7 +2,7 @@
 use Prim.Native.Nat.{ℕ, ◌≤◌, ◌<◌}
 use mathlib.Core.Bool.{Bool, true, false, cond, ◌&&◌, ◌||◌}
 use mathlib.Core.List.{List}
-use mathlib.Core.Option.{Option, none, some}
+use Rattle.std.proofs.Common.{Option, None, Some}
 use mathlib.Core.Path.{◌≡◌, refl}
 use native.Mathlib.Omega.{arith}
 use borrow.Author.Tests.{ltb-true, leb-true, eqb-true}
@@ -94,8 +94,8 @@ framing-fits f array e =
 module _ (r : Receiver) (p : List ℕ) (are : Bytes p) (range : in_range r ≡ true) (slots : Four ReceiverSlotFits r.slots) where
   heard_by-fits : (n : Option ℕ) → number_from (listed r.circuits) (circuit_in p) 0 ≡ n → Four ReceiverSlotFits (heard_by n r.slots p).slots
   unfolding heard_by heard_at slot_at
-  heard_by-fits none e = slots
-  heard_by-fits (some c) e =
+  heard_by-fits None e = slots
+  heard_by-fits (Some c) e =
       let old : slot_in_range (slot_at r.slots c) ≡ true
       = get_or-slots_in_range r.circuits.count r.slots c (number_lt r.circuits (circuit_in p) c e) (in_range_parts r range).slots in
       Four-set ReceiverSlotFits r.slots c _ (slot_fits _ (slot_after_in_range (slot_at r.slots c) p are old)) slots

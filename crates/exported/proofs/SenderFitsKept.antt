@@ -4,7 +4,7 @@ use Prim.Native.Nat.{ℕ, zero, suc, ◌+◌}
 use native.Mathlib.Omega.{arith}
 use mathlib.Core.Bool.{Bool, true, false, cond}
 use mathlib.Core.List.{List}
-use mathlib.Core.Option.{some}
+use Rattle.std.proofs.Common.{Some}
 use lib.ListN.{length}
 use lib.Dec.{eqb}
 use borrow.Author.Tests.{eqb-true}
@@ -101,7 +101,7 @@ fits-offered s store c p r message fits = go (eqb (offer_refusal s store c p r m
 
 -- ---- block making
 
-fits-served : (s : Sender) (enable c : ℕ) → in_range s ≡ true → pick s enable ≡ some c → SenderFits s → SenderFits (served s c)
+fits-served : (s : Sender) (enable c : ℕ) → in_range s ≡ true → pick s enable ≡ Some c → SenderFits s → SenderFits (served s c)
 unfolding served
 fits-served s enable c range p fits =
     let f = pick_waits s enable c p in

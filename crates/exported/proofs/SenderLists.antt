@@ -3,6 +3,7 @@ use Prim.Native.Nat.{ℕ, zero, suc, ◌+◌, ◌*◌, ◌≤◌, ◌<◌}
 use mathlib.Core.Bool.{Bool, true, false, cond, not, ◌&&◌}
 use mathlib.Core.List.{List, [], ◌∷◌, map}
 use mathlib.Core.Path.{◌≡◌, refl, sym, ap, subst, ◌∙◌}
+use Rattle.std.proofs.Common.{Result, Ok}
 use native.Mathlib.Omega.{arith}
 use lib.ListN.{length}
 use lib.Dec.{leb, eqb}
@@ -12,7 +13,9 @@ use Rattle.offering.specs.declared.Sender.{Sender}
 use Rattle.offering.specs.Record.{slot_at}
 use Rattle.sender.specs.Blocks.{System, buffer_after_block}
 use Rattle.sender.specs.BlockCalls.{made_of, frames_placed, bits_used, zeros_added, answer_to_block}
-use Rattle.sender.specs.declared.Made.TheVariants.{Block}
+use Rattle.sender.specs.declared.Block.{Block}
+use Rattle.packet.specs.declared.Refusal.{Refusal}
+use Rattle.packet.specs.Answers.{answered}
 use Rattle.queues.specs.Calls.{Call, offer, block, End, fresh_end, accepted, after_call, after_calls, effect, queues_after_calls}
 use Rattle.queues.specs.Effects.{taken_by}
 use Rattle.queues.specs.AddedZeros.{answer_by_packets, answer_to}
@@ -174,9 +177,10 @@ module _ (bytes : List ℕ) (room : sender_length ≤ length bytes) where
       let e = after_lent_calls (record { bytes = list_record bytes list; store = store }) cs in
       let told = block_answer e.bytes e.store n u y buffer answer in
       call_answered e (block n u buffer y) answer ≡ 0
-      → Block (placed_told told) (used_told told) (zeros_told told) ∷ []
-      ≡ map answer_by_packets (taken_by (queues_after_calls list store (calls_of cs)) (effect (block n u buffer y)))
-  unfolding answer_to answer_to_block made_of accepted
+      → ◌≡◌ {A = List (Result Block Refusal)}
+      (Ok (record { placed = placed_told told; used = used_told told; zeros = zeros_told told }) ∷ [])
+      (map answer_by_packets (taken_by (queues_after_calls list store (calls_of cs)) (effect (block n u buffer y))))
+  unfolding answer_to answer_to_block made_of answered accepted
   answer_bytes are list listed store cs n u y buffer answer z =
       let c = block n u buffer y in
       let s = after_calls (fresh_end list store) (calls_of cs) in

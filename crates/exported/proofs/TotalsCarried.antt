@@ -7,6 +7,7 @@ use borrow.Author.Tests.{leb-true, eqb-true}
 use lib.ListN.{length, replicate}
 use lib.Dec.{eqb}
 use Rattle.bits.specs.Bits.{Bytes}
+use Rattle.packet.specs.Answers as packet_answers
 use Rattle.packet.specs.Lists.{AllAre}
 use Rattle.packet.proofs.Lists.{AllAre_parts}
 use Rattle.receiver.specs.Reading.{read_by, read_scan, read_refusal, store_after_read, bits_read, read_of, answer_to_read}
@@ -45,11 +46,11 @@ module _ (s : ReceiverEnd) (c : ReadCall) where
 
   told-accepted : number ≡ 0
       → told s c ≡ record { notice = notice_of_read; store = store_after_read s.receiver s.store c.bytes c.from c.to } ∷ []
-  unfolding number notice_of_read told answer_to_read read_of report_of
+  unfolding number notice_of_read told answer_to_read read_of packet_answers.answered report_of
   told-accepted zero = rw zero
 
   told_refused : eqb number 0 ≡ false → told s c ≡ []
-  unfolding number told answer_to_read read_of report_of
+  unfolding number told answer_to_read read_of packet_answers.answered report_of
   told_refused refused = rw refused
 
 -- ---- one call

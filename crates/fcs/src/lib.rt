@@ -31,13 +31,11 @@ pub fn fcs_bytes(register: u16, bytes: &[u8]) -> u16
     ensures { result ≡ fcs_run register (bits_of bytes.now) }
 {
     let mut r = register;
-    let mut i = 0;
-    while 2 <= bytes.len() - i {
-        r = fcs_two(r, bytes[i], bytes[i + 1]);
-        i += 2;
+    for i in 0..bytes.len() / 2 {
+        r = fcs_two(r, bytes[2 * i], bytes[2 * i + 1]);
     }
-    if i < bytes.len() {
-        return fcs_byte(r, bytes[i]);
+    if bytes.len() % 2 == 1 {
+        return fcs_byte(r, bytes[bytes.len() - 1]);
     }
     r
 }

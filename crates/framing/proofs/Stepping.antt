@@ -16,9 +16,9 @@ use Rattle.fcs.specs.Fcs.{fcs_of}
 use Rattle.hdlc.proofs.WithFcs.{fcs_right-take}
 use Rattle.framing.specs.declared.Framing.{Framing}
 use Rattle.framing.specs.declared.Check.TheVariants.{Packet, Spoilt, Nothing}
-use Rattle.framing.specs.declared.Verdict.{Verdict}
+use Rattle.std.specs.Prelude.{Option, None, Some}
 use Rattle.framing.specs.Machine.{held, phase_after, keep, whole, verdict_of, check}
-use Rattle.framing.specs.Heads.{overwritten}
+use Rattle.framing.specs.Overwritten.{overwritten}
 use Rattle.framing.specs.Range.{all_zero, kept, phase_right, in_range}
 
 -- ---- the bits held back
@@ -80,39 +80,39 @@ module _ (f : Framing) (r : ℕ) (three : f.phase ≡ 3) (lo : 32 ≤ f.count) (
       (eq-eqb _ _ three, le-leb _ _ lo, le-leb _ _ hi, eq-eqb _ _ bytes, fcs_right-take (f.count / 8) f.bits two fits, is)
 
   pub verdict_of_right : get_or f.bits (f.count / 8 - 2) 0 + 256 * get_or f.bits (f.count / 8 - 2 + 1) 0 ≡ r
-      → Verdict.Packet (f.count / 8 - 2) ≡ verdict_of f
+      → Some (f.count / 8 - 2) ≡ verdict_of f
   unfolding verdict_of
   verdict_of_right e = rw (whole-fcs, eq-eqb _ _ e)
 
   pub verdict_of_wrong : (get_or f.bits (f.count / 8 - 2) 0 + 256 * get_or f.bits (f.count / 8 - 2 + 1) 0 ≡ r → ⊥)
-      → Verdict.Broken ≡ verdict_of f
+      → None ≡ verdict_of f
   unfolding verdict_of
   verdict_of_wrong e = rw (whole-fcs, ne_eqb _ _ e)
 
 -- what a body gives, from whether it passes
-module _ (f : Framing) (w : Verdict) (is : w ≡ verdict_of f) where
-  pub check-packet : (n : ℕ) → w ≡ Verdict.Packet n → Packet n ≡ check f
+module _ (f : Framing) (w : Option ℕ) (is : w ≡ verdict_of f) where
+  pub check-packet : (n : ℕ) → w ≡ Some n → Packet n ≡ check f
   unfolding verdict_of check
   check-packet n e = go (whole f) (sym is ∙ e)
     where
-      go : (t : Bool) → cond t (Verdict.Packet (f.count / 8 - 2)) Verdict.Broken ≡ Verdict.Packet n
+      go : (t : Bool) → cond t (Some (f.count / 8 - 2)) None ≡ Some n
           → Packet n ≡ cond t (Packet (f.count / 8 - 2)) (cond (leb 32 f.count) Spoilt Nothing)
       go true q = cc
       go false q = cc
 
-  check_broken : w ≡ Verdict.Broken → check f ≡ cond (leb 32 f.count) Spoilt Nothing
+  check_broken : w ≡ None → check f ≡ cond (leb 32 f.count) Spoilt Nothing
   unfolding verdict_of check
   check_broken e = go (whole f) (sym is ∙ e)
     where
-      go : (t : Bool) → cond t (Verdict.Packet (f.count / 8 - 2)) Verdict.Broken ≡ Verdict.Broken
+      go : (t : Bool) → cond t (Some (f.count / 8 - 2)) None ≡ None
           → cond t (Packet (f.count / 8 - 2)) (cond (leb 32 f.count) Spoilt Nothing) ≡ cond (leb 32 f.count) Spoilt Nothing
       go true q = cc
       go false q = refl
 
-  pub check_spoilt : w ≡ Verdict.Broken → 32 ≤ f.count → Spoilt ≡ check f
+  pub check_spoilt : w ≡ None → 32 ≤ f.count → Spoilt ≡ check f
   check_spoilt e h = rw (check_broken e, le-leb _ _ h)
 
-  pub check_nothing : w ≡ Verdict.Broken → f.count < 32 → Nothing ≡ check f
+  pub check_nothing : w ≡ None → f.count < 32 → Nothing ≡ check f
   check_nothing e h = rw (check_broken e, lt-leb _ _ h)
 
 -- ---- the range

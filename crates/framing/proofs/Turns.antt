@@ -1,17 +1,20 @@
 -- One turn of each loop, on plain lists: what reading the bit at an index makes of what is still to be read.
-use Prim.Native.Nat.{ℕ, zero, suc, ◌+◌, ◌*◌, ◌/◌, ◌%◌, ◌^◌, ◌≤◌, ◌<◌, min}
+use Prim.Native.Nat.{ℕ, zero, suc, ◌+◌, ◌-◌, ◌*◌, ◌/◌, ◌%◌, ◌^◌, ◌≤◌, ◌<◌, min}
 use mathlib.Core.Bool.{Bool, true, false, not, ◌&&◌}
-use mathlib.Core.List.{List, ◌∷◌, ◌++◌}
-use mathlib.Core.Path.{◌≡◌, refl}
+use mathlib.Core.List.{List, [], ◌∷◌, ◌++◌}
+use mathlib.Core.Path.{◌≡◌, refl, ◌∙◌}
 use native.Mathlib.Nat.{div-one, pow-suc}
 use native.Mathlib.Numerals.{add-one}
 use native.Mathlib.Omega.{arith}
-use lib.ListN.{length, take, drop, get_or, length-take, drop_of_length-le}
-use lib.Seq.{drop-cons, drop-drop, drop-append-le, get_or-take}
+use lib.ListN.{length, take, drop, get_or, length-take, length-drop, drop_of_length-le}
+use lib.Seq.{take-length, drop-cons, drop-drop, drop-append-le, get_or-take}
 use lib.Dec.{eqb}
 use lib.Pow.{shr-shr}
 use borrow.Author.Tests.{eqb-true, eqb-false, eq-eqb, ne_eqb}
-use Rattle.bits.specs.Bits.{odd, low_bits, byte_bits, bits_of}
+use Rattle.std.specs.Bool.{Decides}
+use Rattle.std.specs.List.{All, list_all}
+use Rattle.std.proofs.lemmas.Bool.Decides.{same_from_decides, Decides-by_and, Decides-eqb}
+use Rattle.bits.specs.Bits.{odd, low_bits, byte_bits, bits_of, Bytes}
 use Rattle.bits.proofs.Bits.{length-low_bits, length-bits_of, drop-bits_of}
 use Rattle.hdlc.specs.Stuffing.{end_ones}
 use Rattle.framing.specs.Range.{all_zero}
@@ -19,6 +22,10 @@ use Rattle.framing.specs.Range.{all_zero}
 -- 21 bytes are 168 bits
 pub length_bits_21 : (bytes : List ℕ) → length bytes ≡ 21 → length (bits_of bytes) ≡ 168
 length_bits_21 bytes l = rw (length-bits_of, l)
+
+-- a slice up to the end
+pub take_all : (n k : ℕ) (bytes : List ℕ) → length bytes ≡ n → take (n - k) (drop k bytes) ≡ drop k bytes
+take_all n k bytes l = rw (← l, ← length-drop k bytes) (take-length (drop k bytes))
 
 -- ---- bits that are all 0
 
@@ -51,6 +58,19 @@ all_zero-low_bits (suc m) (suc k) n bs h l =
     let one : 1 + k ≡ suc k = omega arith in
     let e : n / 2 / 2 ^ k ≡ n / 2 ^ suc k = rw one at (shr-shr n 1 k) in
     rw (← e) (all_zero-low_bits m k (n / 2) bs (omega arith) (omega arith))
+
+-- all bits of bytes are 0 exactly if every byte is
+zero_each : (bytes : List ℕ) → Bytes bytes → list_all (λ b. eqb b 0) bytes ≡ all_zero (bits_of bytes)
+unfolding bits_of byte_bits Bytes all_zero
+zero_each [] B = refl
+zero_each (b ∷ bs) B =
+    rw (all_zero-low_bits 8 0 b (bits_of bs) (omega arith) B.0, div-one, zero_each bs B.1)
+
+pub zero_bytes : (bytes : List ℕ) (r : Bool) → Bytes bytes → Decides r (All (λ b. b ≡ 0) bytes) → r ≡ all_zero (bits_of bytes)
+zero_bytes bytes r B h =
+    same_from_decides r (list_all (λ b. eqb b 0) bytes) h
+    (Decides-by_and (λ b. eqb b 0) (λ b. b ≡ 0) (list_all (λ b. eqb b 0)) (λ b. Decides-eqb b 0) refl (λ _ _. refl) bytes)
+    ∙ zero_each bytes B
 
 -- the bits from bit k of byte i on
 module _ (bytes : List ℕ) (i k : ℕ) (h : i < length bytes) (small : get_or bytes i 0 < 256) (l : k ≤ 8) where

@@ -4,3 +4,4 @@ pub mod Closings
 pub mod Range
 pub mod Scanning
 pub mod Heads
+pub mod Overwritten

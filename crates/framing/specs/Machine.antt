@@ -4,14 +4,13 @@
 -- `ones` counts the ones behind that zero, `count` the unstuffed bits of the body before it, or is 169 for more than 168;
 -- `bits` holds those bits, all unused places 0. So the last zero and the ones behind it are held back: where they turn out to
 -- begin the closing flag, exactly the body's unstuffed bits are there, and the body ends in five ones exactly in phase 4.
-use Rattle.std.specs.Prelude.{ℕ, ◌+◌, ◌-◌, ◌/◌, ◌%◌, Bool, true, false, cond, not, ◌&&◌, List, [], ◌∷◌, length, take, replicate, leb, ltb, eqb}
+use Rattle.std.specs.Prelude.{ℕ, Option, None, Some, ◌+◌, ◌-◌, ◌/◌, ◌%◌, Bool, true, false, cond, not, ◌&&◌, List, [], ◌∷◌, length, take, replicate, leb, ltb, eqb}
 use Rattle.std.proofs.lemmas.List.Edits.{sets}
 use Rattle.bits.specs.Bits.{bits_of, fill_bytes}
 use Rattle.hdlc.specs.Bodies.{fcs_right}
 use Rattle.framing.specs.declared.Framing.{Framing}
 use Rattle.framing.specs.declared.Check.{Check}
 use Rattle.framing.specs.declared.Check.TheVariants.{Packet, Spoilt, Nothing}
-use Rattle.framing.specs.declared.Verdict.{Verdict}
 
 -- no bit kept, in a phase
 unfoldable pub empty : ℕ → Framing
@@ -74,8 +73,8 @@ whole f =
     fcs_right (take (f.count / 8) f.bits)
 
 -- the same as an answer, with the length of the packet
-unfoldable pub verdict_of : Framing → Verdict
-verdict_of f = cond (whole f) (Verdict.Packet (f.count / 8 - 2)) Verdict.Broken
+unfoldable pub verdict_of : Framing → Option ℕ
+verdict_of f = cond (whole f) (Some (f.count / 8 - 2)) None
 
 -- the answer of the body check where a body is closed: the length of the packet at the start of `bits`, or why there is none
 unfoldable pub check : Framing → Check

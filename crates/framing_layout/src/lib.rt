@@ -8,7 +8,7 @@ ghost use Rattle.std.proofs.lemmas.List.Edits.{sets};
 ghost use Rattle.framing.specs.Range.{in_range};
 ghost use Rattle.framing_layout.specs.FramingBytes.{framing_length, framing_bytes, framing_in, framing_answer_length, stop_number, length_given, framing_answer_bytes};
 
-use framing::{Check, Framing, Head};
+use framing::{Check, Framing};
 use layout::{low_byte, put_number};
 
 // The lengths of a framing and of a reading call's answer.
@@ -36,12 +36,7 @@ pub fn in_range(bytes: &[u8], at: usize) -> bool
     requires { at + framing_length ≤ length bytes.now }
     ensures { result ≡ in_range (framing_in bytes.now at) }
 {
-    let head = Head {
-        phase: bytes[at],
-        ones: bytes[at + 1],
-        count: bytes[at + 2],
-    };
-    head.in_range(&bytes[at + 3..at + 24])
+    framing_in(bytes, at).in_range()
 }
 
 // The framing's bytes go to byte `at` and those behind it.
@@ -56,6 +51,8 @@ pub fn put_framing(bytes: &mut [u8], at: usize, framing: Framing)
 }
 
 // What a read stopped at, by number.
+// Stays: (a) `framing_answer_bytes` and the header give these numbers; an enum cast by `as` would have to be a second one, since `Packet` has a length.
+#[tactic(auto, unfolding(crate::specs::FramingBytes::stop_number))]
 fn stop_number(check: Check) -> u8
     ensures { result ≡ stop_number check }
 {
@@ -67,13 +64,13 @@ fn stop_number(check: Check) -> u8
 }
 
 // The length of the packet that it gives; 0 where there is none.
+#[tactic(auto, unfolding(crate::specs::FramingBytes::length_given))]
 pub fn length_given(check: Check) -> usize
     ensures { result ≡ length_given check }
 {
     match check {
         Check::Packet(n) => n,
-        Check::Spoilt => 0,
-        Check::Nothing => 0,
+        Check::Spoilt | Check::Nothing => 0,
     }
 }
 

@@ -1,6 +1,6 @@
 -- Bits put through a bit writer, one piece behind another. A loop keeps that the buffer's bits, with those that the writer holds, are the old ones with all
 -- stuffed bits put so far.
-use Prim.Native.Nat.{ℕ, ◌+◌, ◌*◌, ◌^◌, ◌≤◌, ◌<◌}
+use Prim.Native.Nat.{ℕ, ◌+◌, ◌-◌, ◌*◌, ◌/◌, ◌%◌, ◌^◌, ◌≤◌, ◌<◌}
 use native.Mathlib.Nat.{add-zero}
 use native.Mathlib.Numerals.{add-one}
 use native.Mathlib.Omega.{arith}
@@ -8,7 +8,7 @@ use mathlib.Core.Bool.{Bool}
 use mathlib.Core.List.{List, [], ◌∷◌, ◌++◌, append-nil, append_assoc}
 use mathlib.Core.Path.{◌≡◌, refl, sym, ap, ◌∙◌}
 use lib.ListN.{length, take, drop, get_or, length-append, take-append-drop}
-use lib.Seq.{sets, take-suc}
+use lib.Seq.{sets, take-suc, take_all}
 use Rattle.bits.specs.Bits.{low_bits, byte_bits, bits_of}
 use Rattle.bits.specs.Writer.{PartHeld, next_bit, with_held}
 use Rattle.bits.specs.declared.writer.BitWriter.{BitWriter}
@@ -21,7 +21,7 @@ use Rattle.hdlc.specs.Writing.{Room, Written, Stuffed, stuffed_by}
 use Rattle.hdlc.specs.Chunks.{StuffedByte, WriterRoom, WriterPut}
 use Rattle.hdlc.specs.declared.Pen.{Pen}
 use Rattle.hdlc.specs.declared.chunks.Chunk.{Chunk}
-use Rattle.hdlc.proofs.Stuffing.{stuff_from_append, free_after_append, stuff_from-least, free_after_le}
+use Rattle.hdlc.proofs.Stuffing.{stuff_from_append, free_after_append, stuff_from-least}
 use Rattle.hdlc.proofs.Writing.{Put-Stuffed}
 
 -- the bits of a number put
@@ -101,7 +101,7 @@ pub one_byte_more : (bytes : List ℕ) (i : ℕ) → i < length bytes → bits_o
 unfolding bits_of
 one_byte_more bytes i h = rw (add-one, take-suc bytes i 0 h) (bits_of_append (take i bytes) (get_or bytes i 0 ∷ []) ∙ rw append-nil)
 
-pub two_bytes_more : (bytes : List ℕ) (i : ℕ) → i + 2 ≤ length bytes
+two_bytes_more : (bytes : List ℕ) (i : ℕ) → i + 2 ≤ length bytes
     → bits_of (take (i + 2) bytes) ≡ bits_of (take i bytes) ++ (byte_bits (get_or bytes i 0) ++ byte_bits (get_or bytes (i + 1) 0))
 two_bytes_more bytes i h =
     let a : i + 2 ≡ i + 1 + 1 = omega arith in
@@ -109,17 +109,32 @@ two_bytes_more bytes i h =
     ∙ ap (λ (l : List Bool). l ++ byte_bits (get_or bytes (i + 1) 0)) (one_byte_more bytes i (omega arith))
     ∙ append_assoc (bits_of (take i bytes)) (byte_bits (get_or bytes i 0)) (byte_bits (get_or bytes (i + 1) 0))
 
+-- bytes in pairs: one pair more, and the byte behind the pairs, or none
+module _ (bytes : List ℕ) (i : ℕ) where
+  pub pair_more : i < length bytes / 2
+      → bits_of (take (2 * (i + 1)) bytes) ≡ bits_of (take (2 * i) bytes) ++ (byte_bits (get_or bytes (2 * i) 0) ++ byte_bits (get_or bytes (2 * i + 1) 0))
+  pair_more h =
+      let next : 2 * (i + 1) ≡ 2 * i + 2 = omega arith in
+      rw next (two_bytes_more bytes (2 * i) (omega arith))
+
+  pub last_more : length bytes % 2 ≡ 1 → i ≡ length bytes / 2 → bits_of bytes ≡ bits_of (take (2 * i) bytes) ++ byte_bits (get_or bytes (length bytes - 1) 0)
+  last_more h s =
+      let place : length bytes - 1 ≡ 2 * i = omega arith in
+      rw place (ap bits_of (sym (take_all (2 * i + 1) bytes (omega arith))) ∙ one_byte_more bytes (2 * i) (omega arith))
+
+  pub none_more : length bytes % 2 ≡ 0 → i ≡ length bytes / 2 → bits_of bytes ≡ bits_of (take (2 * i) bytes)
+  none_more h s = ap bits_of (sym (take_all (2 * i) bytes (omega arith)))
+
 -- what is put of bits, stuffed: all those done
 pub record Underway (old : List ℕ) (start : BitWriter) (first preset : ℕ) (done : List Bool) (buffer : List ℕ) (w : BitWriter) (free fcs : ℕ) : Type 0 where
   pub long : length buffer ≡ length old
   pub put : WriterPut old start (stuff_from done first) buffer w
-  pub few : free ≤ 4
   pub ones : free ≡ free_after done first
   pub register : fcs ≡ fcs_run preset done
 
-pub Underway_start : {old : List ℕ} {w : BitWriter} (free fcs : ℕ) → free ≤ 4 → PartHeld w → Underway old w free fcs [] old w free fcs
+pub Underway_start : {old : List ℕ} {w : BitWriter} (free fcs : ℕ) → PartHeld w → Underway old w free fcs [] old w free fcs
 unfolding stuff_from free_after fcs_run
-Underway_start free fcs h o = record { long = refl; put = WriterPut_nil o; few = h; ones = refl; register = refl }
+Underway_start free fcs o = record { long = refl; put = WriterPut_nil o; ones = refl; register = refl }
 
 module _ {old : List ℕ} {start : BitWriter} {first preset : ℕ} {done : List Bool} {buffer : List ℕ} {w : BitWriter} {free fcs : ℕ}
     (u : Underway old start first preset done buffer w free fcs) where
@@ -142,7 +157,6 @@ module _ {old : List ℕ} {start : BitWriter} {first preset : ℕ} {done : List 
       record {
         long = l ∙ u.long;
         put = rw e (stuffed_append done a first u.put u.ones p);
-        few = rw f (free_after_le a free u.few);
         ones = rw e (f ∙ ap (free_after a) u.ones ∙ sym (free_after_append done a first));
         register = rw e (r ∙ ap (λ (n : ℕ). fcs_run n a) u.register ∙ sym (fcs_run_append preset done a));
       }

@@ -69,11 +69,11 @@ two_computed = refl
 
 -- the ones free behind a byte, by the ones that end it
 abbrev pub ones_ending : ℕ → ℕ
-ones_ending b = count_leading_zeros 32 (255 - b) - 24
+ones_ending b = count_leading_zeros 8 (255 - b)
 
 free_right : ℕ → ℕ → Bool
 free_right f b =
-    leb 24 (count_leading_zeros 32 (255 - b)) && leb (ones_ending b) 8 &&
+    leb (ones_ending b) 8 &&
     eqb (free_after (byte_bits b) f)
     (cond (eqb b 255) (cond (ltb 2 f) (f - 3) (f + 2)) (cond (ltb (ones_ending b) 5) (4 - ones_ending b) (9 - ones_ending b)))
 
@@ -102,18 +102,14 @@ module _ (f b : ℕ) (few : f ≤ 4) (byte : b < 256) where
   at_byte : (test : ℕ → ℕ → Bool) → all_below (λ n. all_below (test n) 256) 5 ≡ true → test f b ≡ true
   at_byte test t = each_below (test f) 256 b (each_below (λ n. all_below (test n) 256) 5 f t (omega arith)) byte
 
-  pub ending-least : 24 ≤ count_leading_zeros 32 (255 - b)
-  unfolding free_right
-  ending-least = leb-true _ _ (and_left _ _ (and_left _ _ (at_byte free_right free_computed)))
-
   pub ending-most : ones_ending b ≤ 8
   unfolding free_right
-  ending-most = leb-true _ _ (and_right (leb 24 (count_leading_zeros 32 (255 - b))) _ (and_left _ _ (at_byte free_right free_computed)))
+  ending-most = leb-true _ _ (and_left _ _ (at_byte free_right free_computed))
 
   pub free_is : free_after (byte_bits b) f
       ≡ cond (eqb b 255) (cond (ltb 2 f) (f - 3) (f + 2)) (cond (ltb (ones_ending b) 5) (4 - ones_ending b) (9 - ones_ending b))
   unfolding free_right
-  free_is = eqb-true _ _ (and_right (leb 24 (count_leading_zeros 32 (255 - b)) && leb (ones_ending b) 8) _ (at_byte free_right free_computed))
+  free_is = eqb-true _ _ (and_right (leb (ones_ending b) 8) _ (at_byte free_right free_computed))
 
   pub shifted_pos : 1 ≤ shifted f b
   unfolding none_right

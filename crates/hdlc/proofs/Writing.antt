@@ -1,6 +1,6 @@
 -- Writing piece by piece: pieces written one after another are written as one, and room for all is room for each. So a loop
 -- that writes keeps that to write what is left from here is to write all from the start.
-use Prim.Native.Nat.{ℕ, suc, ◌+◌, ◌-◌, ◌/◌, ◌≤◌, ◌<◌}
+use Prim.Native.Nat.{ℕ, suc, ◌+◌, ◌-◌, ◌/◌, ◌^◌, ◌≤◌, ◌<◌}
 use native.Mathlib.Nat.{add-zero}
 use native.Mathlib.Numerals.{add-one}
 use native.Mathlib.Omega.{arith}
@@ -8,6 +8,7 @@ use mathlib.Core.Bool.{Bool}
 use mathlib.Core.List.{List, [], ◌∷◌, ◌++◌}
 use mathlib.Core.Path.{◌≡◌, refl, ap, ◌∙◌}
 use lib.ListN.{length, get_or, drop, length-append, drop_of_length-le}
+use lib.Pow.{shr-shr}
 use lib.Seq.{drop-cons}
 use Rattle.bits.specs.Bits.{odd, low_bits, byte_bits, bits_of}
 use Rattle.bits.proofs.Lists.{sets_append}
@@ -119,11 +120,12 @@ module _ {old buffer : List ℕ} {pen here : Pen} {all left : List Bool} (g : To
   ToGo_end e = g.rest buffer here (rw e (Put_nil buffer here))
 
 -- what is left of a number's w lowest bits, and of bytes, one step on and at the end
-pub low_bits-step : (w k n : ℕ) → k < w → low_bits (w - k) n ≡ odd n ∷ low_bits (w - (k + 1)) (n / 2)
+pub low_bits-step : (w k n : ℕ) → k < w → low_bits (w - k) (n / 2 ^ k) ≡ odd (n / 2 ^ k) ∷ low_bits (w - (k + 1)) (n / 2 ^ (k + 1))
 unfolding low_bits
 low_bits-step w k n h =
     let e : w - k ≡ suc (w - (k + 1)) = omega arith in
-    rw e
+    let half : n / 2 ^ k / 2 ≡ n / 2 ^ (k + 1) = shr-shr n k 1 in
+    rw (e, half)
 
 pub low_bits-none : (w k n : ℕ) → w ≤ k → low_bits (w - k) n ≡ []
 unfolding low_bits

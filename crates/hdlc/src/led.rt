@@ -5,7 +5,8 @@ ghost use Rattle.hdlc.specs.Frames.{flag, frame};
 ghost use Rattle.hdlc.specs.Leads.{led, Below};
 ghost use Rattle.hdlc.specs.Writing.{Room, Written, Stuffed, stuffed_by};
 
-use crate::{Pen, chunks, end_frame, put_one, stuff_bytes};
+use crate::chunks::Free;
+use crate::{Pen, end_frame, put_one, stuff_bytes};
 use bits::writer::BitWriter;
 
 // A byte put below the others of a number.
@@ -23,23 +24,21 @@ fn stuff_number(buf: &mut [u8], pen: Pen, number: u64, n: usize) -> Pen
     ensures { Stuffed buf.old pen (bits_of (led number n [])) buf.new result }
 {
     let at = pen.at;
-    let mut free = pen.free;
+    let mut free = Free::new(pen.free);
     let mut fcs = pen.fcs;
     let mut writer = BitWriter::new(buf, at);
     let mut rest = number;
-    let mut i: usize = 0;
-    while i < n {
+    for _ in 0..n {
         let byte = (rest % 256) as u8;
         writer = put_one(buf, writer, free, byte);
-        free = chunks::free_behind(free, byte);
+        free = free.behind(byte);
         fcs = fcs::fcs_byte(fcs, byte);
-        rest = rest / 256;
-        i += 1;
+        rest /= 256;
     }
     Pen {
         at: writer.close(buf),
-        free: free,
-        fcs: fcs,
+        free: free.ones,
+        fcs,
     }
 }
 

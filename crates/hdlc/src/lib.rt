@@ -14,10 +14,11 @@ pub mod led;
 pub mod zeros;
 
 use bits::writer::BitWriter;
-use chunks::Chunk;
+use chunks::{Chunk, Free};
 use zeros::Framed;
 
 // Where the next bit of a frame goes, how many ones may come before the one behind which a 0 is stuffed, and the FCS register.
+// Stays: (a) `free` is a number and no `Free`, since `stuff_bytes` and `end_frame` promise of pens with more than four free too (`Stuffed`, `pen_after`).
 #[derive(Clone, Copy)]
 pub struct Pen {
     pub at: usize,
@@ -31,7 +32,7 @@ impl Pen {
         ensures { (result.at ≡ at) × (result.free ≡ 4) × (result.fcs ≡ 0xffff) }
     {
         Pen {
-            at: at,
+            at,
             free: 4,
             fcs: fcs::PRESET,
         }
@@ -74,12 +75,8 @@ fn stuff_by_bits(buf: &mut [u8], pen: Pen, byte: u8) -> Pen
     ensures { Stuffed buf.old pen (byte_bits byte) buf.new result }
 {
     let mut p = pen;
-    let mut rest = byte;
-    let mut k: usize = 0;
-    while k < 8 {
-        p = stuff_bit(buf, p, rest % 2 == 1);
-        rest = rest / 2;
-        k += 1;
+    for k in 0..8usize {
+        p = stuff_bit(buf, p, (byte >> k) % 2 == 1);
     }
     Pen {
         at: p.at,
@@ -94,33 +91,31 @@ fn stuff_in_turn(buf: &mut [u8], pen: Pen, bytes: &[u8]) -> Pen
     ensures { Stuffed buf.old pen (bits_of bytes.now) buf.new result }
 {
     let mut p = pen;
-    let mut i: usize = 0;
-    while i < bytes.len() {
-        p = stuff_by_bits(buf, p, bytes[i]);
-        i += 1;
+    for &byte in bytes {
+        p = stuff_by_bits(buf, p, byte);
     }
     p
 }
 
 // A byte put with a bit writer, stuffed, where so many ones may come before the one that gets a 0 behind it.
-fn put_one(buf: &mut [u8], writer: BitWriter, free: u8, byte: u8) -> BitWriter
-    requires { (free ≤ 4) × WriterRoom buf.old writer (stuff_from (byte_bits byte) free) }
-    ensures { WriterPut buf.old writer (stuff_from (byte_bits byte) free) buf.new result }
+fn put_one(buf: &mut [u8], writer: BitWriter, free: Free, byte: u8) -> BitWriter
+    requires { WriterRoom buf.old writer (stuff_from (byte_bits byte) free.ones) }
+    ensures { WriterPut buf.old writer (stuff_from (byte_bits byte) free.ones) buf.new result }
 {
     let chunk = Chunk::of(free, byte);
     writer.put(buf, chunk.len, chunk.value)
 }
 
 // Two bytes put with a bit writer, stuffed: at once, if neither gets a 0.
-fn put_two(buf: &mut [u8], writer: BitWriter, free: u8, low: u8, high: u8) -> BitWriter
-    requires { (free ≤ 4) × WriterRoom buf.old writer (stuff_from (byte_bits low ++ byte_bits high) free) }
-    ensures { WriterPut buf.old writer (stuff_from (byte_bits low ++ byte_bits high) free) buf.new result }
+fn put_two(buf: &mut [u8], writer: BitWriter, free: Free, low: u8, high: u8) -> BitWriter
+    requires { WriterRoom buf.old writer (stuff_from (byte_bits low ++ byte_bits high) free.ones) }
+    ensures { WriterPut buf.old writer (stuff_from (byte_bits low ++ byte_bits high) free.ones) buf.new result }
 {
-    if chunks::plain_two(free, low, high) {
+    if free.plain_two(low, high) {
         return writer.put(buf, 16, low as u32 + 256 * (high as u32));
     }
     let first = put_one(buf, writer, free, low);
-    put_one(buf, first, chunks::free_behind(free, low), high)
+    put_one(buf, first, free.behind(low), high)
 }
 
 // The bits of bytes written at the pen, stuffed: with one bit writer and two bytes at a time, unless the pen is none that a frame leaves.
@@ -129,34 +124,32 @@ pub fn stuff_bytes(buf: &mut [u8], pen: Pen, bytes: &[u8]) -> Pen
     ensures { Stuffed buf.old pen (bits_of bytes.now) buf.new result }
 {
     let at = pen.at;
-    let mut free = pen.free;
-    if 4 < free {
+    if 4 < pen.free {
         return stuff_in_turn(buf, pen, bytes);
     }
-    if bytes.len() == 0 {
+    if bytes.is_empty() {
         return pen;
     }
+    let mut free = Free::new(pen.free);
     let mut fcs = pen.fcs;
     let mut writer = BitWriter::new(buf, at);
-    let mut i: usize = 0;
-    while 2 <= bytes.len() - i {
-        let low = bytes[i];
-        let high = bytes[i + 1];
+    for i in 0..bytes.len() / 2 {
+        let low = bytes[2 * i];
+        let high = bytes[2 * i + 1];
         writer = put_two(buf, writer, free, low, high);
-        free = chunks::free_behind(chunks::free_behind(free, low), high);
+        free = free.behind(low).behind(high);
         fcs = fcs::fcs_two(fcs, low, high);
-        i += 2;
     }
-    if i < bytes.len() {
-        let last = bytes[i];
+    if bytes.len() % 2 == 1 {
+        let last = bytes[bytes.len() - 1];
         writer = put_one(buf, writer, free, last);
-        free = chunks::free_behind(free, last);
+        free = free.behind(last);
         fcs = fcs::fcs_byte(fcs, last);
     }
     Pen {
         at: writer.close(buf),
-        free: free,
-        fcs: fcs,
+        free: free.ones,
+        fcs,
     }
 }
 
@@ -175,17 +168,17 @@ pub fn end_frame(buf: &mut [u8], pen: Pen) -> usize
     ensures { Written buf.old pen.at (ending pen) buf.new result }
 {
     let at = pen.at;
-    let free = pen.free;
     let fcs = 0xffff - pen.fcs;
     let low = (fcs % 256) as u8;
     let high = (fcs / 256) as u8;
-    if 4 < free {
+    if 4 < pen.free {
         let p = stuff_by_bits(buf, pen, low);
         let q = stuff_by_bits(buf, p, high);
         return put_flag(buf, q.at);
     }
+    let free = Free::new(pen.free);
     let first = put_one(buf, BitWriter::new(buf, at), free, low);
-    let writer = put_one(buf, first, chunks::free_behind(free, low), high);
+    let writer = put_one(buf, first, free.behind(low), high);
     let flagged = writer.put(buf, 8, 0x7e);
     flagged.close(buf)
 }

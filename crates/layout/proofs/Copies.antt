@@ -1,14 +1,14 @@
 -- A part of a list, copied; parts written one behind the other; a number's bytes written one by one.
-use mathlib.Core.Path.{◌≡◌, ◌∙◌}
+use mathlib.Core.Path.{◌≡◌, sym, ◌∙◌}
 use Prim.Native.Nat.{ℕ, suc, ◌+◌, ◌-◌, ◌*◌, ◌/◌, ◌%◌, ◌≤◌, ◌<◌}
-use native.Mathlib.Nat.{add-suc}
 use native.Mathlib.Numerals.{add-one}
 use native.Mathlib.Omega.{arith}
-use mathlib.Core.List.{List, [], ◌++◌, append-nil}
+use mathlib.Core.List.{List, [], ◌++◌, append_assoc, append-nil}
 use lib.ListN.{length, take, drop, set, length-append, length-drop, drop_of_length-le}
-use lib.Seq.{sets, slice, length-take-le, take-add, drop_at}
+use lib.Seq.{sets, sets-eq, slice, drop-drop, length-take-le, take-add, drop_at}
 use Rattle.bits.proofs.Lists.{sets_append, sets_behind}
 use Rattle.layout.specs.Layout.{low_bytes}
+use Rattle.layout.proofs.Parts.{length-low_bytes}
 
 -- n elements from f on
 pub part_slice : {A : Type 0} (l : List A) (f n : ℕ) → f + n ≤ length l → take n (drop f l) ≡ slice f (f + n) l
@@ -46,16 +46,25 @@ four_written laid n long l at a b c d e f g h =
 -- ---- a number's bytes
 
 -- the rest of them, when the lowest is written
-pub rest_written : (l : List ℕ) (at k width n : ℕ) → k < width
-    → sets (set l (at + k) (n % 256)) (at + (k + 1)) (low_bytes (width - (k + 1)) (n / 256)) ≡ sets l (at + k) (low_bytes (width - k) n)
+pub rest_written : (l : List ℕ) (k width n : ℕ) → k < width
+    → sets (set l k (n % 256)) (k + 1) (low_bytes (width - (k + 1)) (n / 256)) ≡ sets l k (low_bytes (width - k) n)
 unfolding low_bytes
-rest_written l at k width n h =
+rest_written l k width n h =
     let more : width - k ≡ suc (width - (k + 1)) = omega arith in
-    rw (more, add-one, add-suc)
+    rw (more, add-one)
 
--- none is left
-pub all_written : (l : List ℕ) (at k width n : ℕ) → width ≤ k → sets l (at + k) (low_bytes (width - k) n) ≡ l
+-- all of them are written to a part of a list, and none is left
+pub all_written : (l part : List ℕ) (at k width n left : ℕ) → at + width ≤ length l → length (take (at + width - at) (drop at l)) ≤ k
+    → sets part k (low_bytes (width - k) left) ≡ sets (take (at + width - at) (drop at l)) 0 (low_bytes width n)
+    → take at l ++ (part ++ drop (at + width - at) (drop at l)) ≡ sets l at (low_bytes width n)
 unfolding low_bytes
-all_written l at k width n h =
+all_written l part at k width n left inside h e =
+    let v = low_bytes width n in
+    let place = take (at + width - at) (drop at l) in
+    let long : length v ≡ width = length-low_bytes width n in
+    let behind : at + (at + width - at) ≡ at + length v = omega arith in
+    let room : length place ≡ width = length-take-le (at + width - at) (drop at l) (omega (arith, length-drop at l)) ∙ omega arith in
     let none : width - k ≡ 0 = omega arith in
-    rw none
+    let over : sets place 0 v ≡ v = sets_behind [] place v (omega arith) ∙ rw (drop_of_length-le place {i = length v} (omega arith), append-nil) in
+    let written : part ≡ sets place 0 v = rw none at e in
+    rw (written, over, drop-drop, behind, ← append_assoc) (sym (sets-eq v l at (omega arith)))

@@ -2,10 +2,9 @@
 use mathlib.Core.Path.{◌≡◌, refl, sym, ◌∙◌}
 use Prim.Native.Nat.{ℕ, zero, suc, ◌+◌, ◌-◌, ◌*◌, ◌/◌, ◌%◌, ◌^◌, ◌≤◌, ◌<◌}
 use native.Mathlib.Nat.{add-zero}
-use native.Mathlib.Numerals.{add-one}
 use native.Mathlib.Omega.{arith}
 use mathlib.Core.List.{List, [], ◌∷◌, ◌++◌}
-use lib.ListN.{length, take, drop}
+use lib.ListN.{length, get_or, take, drop}
 use lib.Seq.{slice, slice-cons, take-length, take-append-le}
 use Rattle.bits.specs.Bits.{Bytes}
 use Rattle.bits.proofs.Bits.{get_or-Bytes}
@@ -27,11 +26,6 @@ pub number_fits : (k : ℕ) (bytes : List ℕ) → Bytes bytes → (at : ℕ) �
 unfolding number_at
 number_fits zero bytes are at = omega arith
 number_fits (suc k) bytes are at = omega (arith, byte_fits bytes are at, number_fits k bytes are (suc at))
-
--- two bytes
-pub word : (bytes : List ℕ) (at : ℕ) → number_at 2 bytes at ≡ byte_at bytes at + 256 * byte_at bytes (at + 1)
-unfolding number_at
-word bytes at = rw (add-one, add-zero)
 
 -- a byte more before the others
 number_behind : (k b : ℕ) (bytes : List ℕ) (at : ℕ) → number_at k (b ∷ bytes) (suc at) ≡ number_at k bytes at
@@ -72,6 +66,15 @@ four_elements Holds of (a ∷ b ∷ []) f = absurd (omega arith)
 four_elements Holds of (a ∷ b ∷ c ∷ []) f = absurd (omega arith)
 four_elements Holds of (a ∷ b ∷ c ∷ d ∷ []) f = of a b c d f.each.0 f.each.1.0 f.each.1.1.0 f.each.1.1.1.0
 four_elements Holds of (a ∷ b ∷ c ∷ d ∷ e ∷ l) f = absurd (omega arith)
+
+-- an array of four is its elements
+pub four_places : {A : Type 0} (l : List A) (d : A) → length l ≡ 4 → l ≡ get_or l 0 d ∷ get_or l 1 d ∷ get_or l 2 d ∷ get_or l 3 d ∷ []
+four_places (a ∷ b ∷ c ∷ d ∷ []) e h = refl
+four_places [] e h = absurd (omega arith)
+four_places (a ∷ []) e h = absurd (omega arith)
+four_places (a ∷ b ∷ []) e h = absurd (omega arith)
+four_places (a ∷ b ∷ c ∷ []) e h = absurd (omega arith)
+four_places (a ∷ b ∷ c ∷ d ∷ f ∷ l) e h = absurd (omega arith)
 
 -- ---- circuits
 

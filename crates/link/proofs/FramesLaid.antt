@@ -3,7 +3,7 @@ use Prim.Native.Nat.{ℕ, ◌+◌, ◌-◌, ◌%◌, ◌≤◌, ◌<◌}
 use native.Mathlib.Omega.{arith}
 use mathlib.Core.Bool.{Bool, true}
 use mathlib.Core.List.{List, [], ◌∷◌, ◌++◌, map, flatten, append_assoc}
-use mathlib.Core.Option.{Option, none, some}
+use Rattle.std.proofs.Common.{Option, None, Some}
 use mathlib.Core.Path.{◌≡◌, refl, sym, ap, ◌∙◌}
 use lib.ListN.{length, take, drop, replicate, length-append}
 use lib.Seq.{take-append_seam, drop-append_seam}
@@ -112,9 +112,9 @@ right_copy_of k priority text number part r few short h inside =
 
 right_made : (whose : Option Placed) (packet : List ℕ) → MadeBy whose packet → Right packet
 unfolding MadeBy
-right_made none packet m =
+right_made None packet m =
     rw m.is (right_system m.enable m.code m.information m.enable_le m.code_le m.short m.bytes)
-right_made (some q) packet m =
+right_made (Some q) packet m =
     let c : Made q.circuit q.copy = m.2 in
     let is : packet ≡ (copy_of q.circuit q.copy.priority c.text q.copy.number c.part).packet =
     m.0 ∙ ap (λ (x : Copy). x.packet) c.is in

@@ -4,7 +4,7 @@ use native.Mathlib.Nat.{zero-add}
 use native.Mathlib.Omega.{arith}
 use mathlib.Core.Bool.{Bool, true, false, cond, not, ◌&&◌, true≢false}
 use mathlib.Core.List.{List, [], ◌∷◌, ◌++◌, map}
-use mathlib.Core.Option.{Option, none, some}
+use Rattle.std.proofs.Common.{Option, None, Some}
 use mathlib.Core.Path.{◌≡◌, refl, sym, ap, ◌∙◌}
 use borrow.Author.Tests.{eq-eqb, ne_eqb, eqb-true, eqb-false, ltb-true, ltb-false}
 use lib.ListN.{length, take, drop, get_or, get_or-replicate, length-set, length-drop}
@@ -15,7 +15,7 @@ use Rattle.bits.proofs.Lists.{drop_sets_before, take_sets_behind, take_sets_insi
 use Rattle.bits.proofs.Tests.{and_left, and_right, or_left, or_right}
 use Rattle.packet.specs.declared.Circuit.{Circuit}
 use Rattle.packet.specs.declared.Circuits.{Circuits}
-use Rattle.packet.specs.Circuits.{circuits_of, alike, two_alike, list_refusal, listed, no_circuit, listing, number_from, found_option}
+use Rattle.packet.specs.Circuits.{circuits_of, alike, two_alike, list_refusal, listed, no_circuit, listing, number_from}
 use Rattle.packet.specs.Messages.{longest, packets, link_of}
 use Rattle.packet.specs.Messages.{segment as segment_of}
 use Rattle.packet.specs.Packets.{packet_of, system_packet}
@@ -25,7 +25,6 @@ use Rattle.packet.proofs.Segments.{length-segment as length-segment_of, link_of_
 use Rattle.queues.specs.Queues.{Copy, copy_of, Placed}
 use Rattle.notices.specs.declared.Slot.{Slot}
 use Rattle.receiver.specs.declared.Receiver.{Receiver}
-use Rattle.packet.specs.declared.Found.TheVariants.{At, Nowhere}
 use Rattle.notices.specs.declared.Hearing.{Hearing}
 use Rattle.notices.specs.declared.Fate.{Fate}
 use Rattle.notices.specs.declared.Fate.TheVariants.{Copy as CopyFate, Begun, Held, Whole, Orphan, Wrong}
@@ -43,7 +42,7 @@ use Rattle.receiver.proofs.InRange.{fresh_in_range, passed_in_range}
 use Rattle.receiver.proofs.ReadLaws.{before_hearing}
 use Rattle.parsing.proofs.PacketParts.{right_segment}
 use Rattle.notices.proofs.FateLaws.{slot_in_range_facts}
-use Rattle.notices.proofs.Hearings.{found_slot, heard-system, heard_elsewhere, heard_circuit}
+use Rattle.notices.proofs.Hearings.{number_slot, heard-system, heard_elsewhere, heard_circuit}
 use Rattle.link.specs.Demand3.{Frame, is_number, loss_at, losses_at, handed_from, handed_at, handed_over}
 use Rattle.link.proofs.Steps.{told_by_packets, RightCircuit, Made, MadeBy, AllMade, is_of, packets_at, losses_heard, handed_heard}
 use Rattle.link.proofs.FramesLaid.{right_copy_of}
@@ -95,7 +94,7 @@ unfolding is_number number_from first_from
 is_number-below [] d m n h = refl
 is_number-below (c ∷ cs) d m n h = go (alike c d) (is_number-below cs d (m + 1) n (omega arith))
   where
-    go : (t : Bool) → is_number n (number_from cs d (m + 1)) ≡ false → is_number n (cond t (some m) (number_from cs d (m + 1))) ≡ false
+    go : (t : Bool) → is_number n (number_from cs d (m + 1)) ≡ false → is_number n (cond t (Some m) (number_from cs d (m + 1))) ≡ false
     go true later = ne_eqb m n (omega arith)
     go false later = later
 
@@ -106,14 +105,14 @@ unfolding is_number number_from first_from two_alike
 is_number-alike [] d m n e h = absurd (omega arith)
 is_number-alike (c ∷ cs) d m zero e h = go (alike c d)
   where
-    go : (t : Bool) → is_number (m + 0) (cond t (some m) (number_from cs d (m + 1))) ≡ t
+    go : (t : Bool) → is_number (m + 0) (cond t (Some m) (number_from cs d (m + 1))) ≡ t
     go true = eq-eqb m (m + 0) (omega arith)
     go false = is_number-below cs d (m + 1) (m + 0) (omega arith)
 is_number-alike (c ∷ cs) d m (suc n) e h =
     go (alike c d) refl (is_number-alike cs d (m + 1) n (or_right (any_of (alike c) cs) (two_alike cs) e) (omega arith))
   where
     go : (t : Bool) → alike c d ≡ t → is_number (m + 1 + n) (number_from cs d (m + 1)) ≡ alike (get_or cs n no_circuit) d
-        → is_number (m + suc n) (cond t (some m) (number_from cs d (m + 1))) ≡ alike (get_or cs n no_circuit) d
+        → is_number (m + suc n) (cond t (Some m) (number_from cs d (m + 1))) ≡ alike (get_or cs n no_circuit) d
     go true same later =
         let other = any_of-none (alike c) cs n (omega arith) (or_left (any_of (alike c) cs) (two_alike cs) e) in
         ne_eqb m (m + suc n) (omega arith) ∙ sym (alike_one c (get_or cs n no_circuit) d other same)
@@ -315,22 +314,20 @@ record PacketOf (k : Circuit) (p : List ℕ) : Type 0 where
 module _ (cs : Circuits) (n : ℕ) (n-lt : n < 4) (r : Receiver) (store p : List ℕ) (s : Ready cs r) where
   -- a circuit's packet tells of circuit n if that is the number found for it
   step_circuit : (k : Circuit) → PacketOf k p → Step (is_number n (number_from (listed cs) k 0)) cs n r store p (passed r store p)
-  unfolding is_number found_option heard_at store_after_notice loss_at handed_at
+  unfolding is_number heard_at store_after_notice loss_at handed_at
   step_circuit k h = go (number_from (listed cs) k 0) refl
     where
       go : (o : Option ℕ) → number_from (listed cs) k 0 ≡ o → Step (is_number n o) cs n r store p (passed r store p)
-      go none e =
-          let found : none ≡ number_from (listed r.circuits) k 0 = rw s.circuits (sym e) in
-          rw (passed_leaves r store p _
-          (heard_elsewhere r.slots p r.circuits (malformed p) refl h.right (address p) refl h.plain k (sym h.circuit) Nowhere found refl))
+      go None e =
+          let found : number_from (listed r.circuits) (circuit_in p) 0 ≡ None = rw (s.circuits, h.circuit) e in
+          rw (passed_leaves r store p _ (heard_elsewhere r.slots p r.circuits h.right h.plain found))
           (record { told = record { loss = refl; slot = refl; written = refl; handed = refl }; ready = s })
-      go (some c) e =
-          let found : some c ≡ number_from (listed r.circuits) k 0 = rw s.circuits (sym e) in
+      go (Some c) e =
+          let found : number_from (listed r.circuits) (circuit_in p) 0 ≡ Some c = rw (s.circuits, h.circuit) e in
           let is : passed r store p ≡ leaves (heard_at c r.slots p) r store p =
-          passed_leaves r store p _
-          (heard_circuit r.slots p r.circuits (malformed p) refl h.right (address p) refl h.plain k (sym h.circuit) (At c) found c refl) in
+          passed_leaves r store p _ (heard_circuit r.slots p r.circuits h.right h.plain c found) in
           let (few, slots) = before_hearing r p s.range in
-          let range : slot_in_range (slot_at r.slots c) ≡ true = (found_slot r.circuits r.slots slots few (At c) k c found refl).1 in
+          let range : slot_in_range (slot_at r.slots c) ≡ true = (number_slot r.circuits r.slots slots few (circuit_in p) c found).1 in
           record {
             told = rw is (heard_at-any n r store p h.right c range (omega (arith, s.places)));
             ready = record {
@@ -346,7 +343,7 @@ module _ (cs : Circuits) (n : ℕ) (n-lt : n < 4) (r : Receiver) (store p : List
   step-system e c v is e-le c-le short =
       let right : malformed p ≡ false = rw is (system-malformed e c v e-le c-le short) in
       let there : address p ≡ 0xff = rw is (system-address e c v) in
-      rw (passed_leaves r store p _ (heard-system r.slots p r.circuits (malformed p) refl right (address p) refl there))
+      rw (passed_leaves r store p _ (heard-system r.slots p r.circuits right there))
       (record {
         told = record { loss = refl; slot = refl; written = area_behind n store system_place (information p) (omega arith); handed = refl };
         ready = s;
@@ -394,8 +391,8 @@ module _ (cs : Circuits) (n : ℕ) (n-lt : n < 4) (k : Circuit) (is : (d : Circu
   -- a frame's packet tells of circuit n if it is one of circuit k
   step-made : (w : Option Placed) (r : Receiver) (store p : List ℕ) → MadeBy w p → Ready cs r → Step (is_of k w) cs n r store p (passed r store p)
   unfolding MadeBy is_of
-  step-made none r store p m s = step-system cs n n-lt r store p s m.enable m.code m.information m.is m.enable_le m.code_le m.short
-  step-made (some q) r store p m s =
+  step-made None r store p m s = step-system cs n n-lt r store p s m.enable m.code m.information m.is m.enable_le m.code_le m.short
+  step-made (Some q) r store p m s =
       rw (← is q.circuit, m.0) (step_circuit cs n n-lt r store q.copy.packet s q.circuit (made-packet q.circuit q.copy m.1 m.2))
 
   -- what the packets of frames tell of circuit n

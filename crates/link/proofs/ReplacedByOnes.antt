@@ -4,7 +4,7 @@ use Prim.Native.Nat.{ℕ, zero, suc, ◌+◌, ◌≤◌, ◌<◌}
 use native.Mathlib.Omega.{arith}
 use mathlib.Core.Bool.{Bool, true, false, ◌&&◌, true≢false}
 use mathlib.Core.List.{List, [], ◌∷◌, ◌++◌, map, flatten, append_assoc, append-nil, cons-eq-cons, head-eq_of_cons-eq, tail-eq_of_cons-eq}
-use mathlib.Core.Option.{some}
+use Rattle.std.proofs.Common.{Some}
 use mathlib.Core.Path.{◌≡◌, refl, sym, ap, ◌∙◌, fun_ext}
 use lib.ListN.{length, replicate, length-append}
 use lib.Dec.{eqb}
@@ -65,18 +65,18 @@ unfolding Whole values kept_bits
 whole-none n = λ w r m h l e. ((r, e), λ i. refl)
 
 whole_bit : (b : Bool) (n : ℕ) (bits : List Bit) (sent : List Bool) → Whole (suc n) bits sent
-    → Whole n (record { number = some n; value = b } ∷ bits) (b ∷ sent)
+    → Whole n (record { number = Some n; value = b } ∷ bits) (b ∷ sent)
 unfolding Whole Stops values kept_bits begin_with
 whole_bit b n bits sent whole = go
   where
     more : (c : Bool) (w r : List Bool) (m : ℕ) → Stops w m → m ≤ 6 → b ∷ values bits ≡ c ∷ (w ++ r)
         → ((s : List Bool) × (b ∷ sent ≡ c ∷ (w ++ s)))
-        × ((i : ℕ) → begin_with i (suc (length w)) (record { number = some n; value = b } ∷ bits) ≡ begin_with i (suc (length w)) (kept_bits n (b ∷ sent)))
+        × ((i : ℕ) → begin_with i (suc (length w)) (record { number = Some n; value = b } ∷ bits) ≡ begin_with i (suc (length w)) (kept_bits n (b ∷ sent)))
     more c w r m h l e =
         let found = whole w r m h l (tail-eq_of_cons-eq e) in
-        ((found.0.0, cons-eq-cons.1 (head-eq_of_cons-eq e, found.0.1)), λ i. ap (λ t. is_number i (some n) && t) (found.1 (suc i)))
+        ((found.0.0, cons-eq-cons.1 (head-eq_of_cons-eq e, found.0.1)), λ i. ap (λ t. is_number i (Some n) && t) (found.1 (suc i)))
 
-    go : Whole n (record { number = some n; value = b } ∷ bits) (b ∷ sent)
+    go : Whole n (record { number = Some n; value = b } ∷ bits) (b ∷ sent)
     go [] r m h l e = ((b ∷ sent, refl), λ i. refl)
     go (false ∷ w) r m h l e = more false w r 6 h (omega arith) e
     go (true ∷ w) r zero h l e = absurd h

@@ -5,7 +5,7 @@ use native.Mathlib.Nat.{le_refl}
 use native.Mathlib.Omega.{arith}
 use mathlib.Core.Bool.{Bool, true, false, or-true, true≢false}
 use mathlib.Core.List.{List, [], ◌∷◌, ◌++◌, map}
-use mathlib.Core.Option.{Option, none, some}
+use Rattle.std.proofs.Common.{Option, None, Some}
 use mathlib.Core.Path.{◌≡◌, refl, sym, ap, ◌∙◌}
 use lib.ListN.{length, take, drop, get_or}
 use lib.Seq.{drop-append_seam, drop-drop, get_or-drop}
@@ -16,8 +16,8 @@ use Rattle.link.specs.Demand3.{Piece, kept, replaced, originals, Bit, kept_bits,
 -- bits with numbers from n on: each is the joined bit of its number, and the numbers ascend
 pub data Numbered (joined : List Bool) : ℕ → List Bit → Type 0 where
   over : {n : ℕ} → Numbered joined n []
-  foreign : {n : ℕ} {b : Bit} {bs : List Bit} → b.number ≡ none → Numbered joined n bs → Numbered joined n (b ∷ bs)
-  own : {n : ℕ} {b : Bit} {bs : List Bit} (m : ℕ) → n ≤ m → b.number ≡ some m → drop m joined ≡ b.value ∷ drop (suc m) joined
+  foreign : {n : ℕ} {b : Bit} {bs : List Bit} → b.number ≡ None → Numbered joined n bs → Numbered joined n (b ∷ bs)
+  own : {n : ℕ} {b : Bit} {bs : List Bit} (m : ℕ) → n ≤ m → b.number ≡ Some m → drop m joined ≡ b.value ∷ drop (suc m) joined
       → Numbered joined (suc m) bs → Numbered joined n (b ∷ bs)
 
 -- ---- the bits that result are such
@@ -64,10 +64,10 @@ module _ (joined : List Bool) where
 -- ---- a row
 
 -- a number asked for
-is_number_lem : (n : ℕ) (o : Option ℕ) → is_number n o ≡ true → o ≡ some n
+is_number_lem : (n : ℕ) (o : Option ℕ) → is_number n o ≡ true → o ≡ Some n
 unfolding is_number
-is_number_lem n none e = absurd (true≢false (sym e))
-is_number_lem n (some m) e = ap some (eqb-true m n e)
+is_number_lem n None e = absurd (true≢false (sym e))
+is_number_lem n (Some m) e = ap Some (eqb-true m n e)
 
 -- the values of bits that begin with a row are those of the stretch
 begin_values : (k a : ℕ) {joined : List Bool} {n : ℕ} {bits : List Bit} → Numbered joined n bits → begin_with a k bits ≡ true
@@ -97,7 +97,7 @@ unfolding kept_bits
 kept_bits_append [] b n = let e : n + 0 ≡ n = omega arith in rw e
 kept_bits_append (x ∷ a) b n =
     let e : n + suc (length a) ≡ suc n + length a = omega arith in
-    rw e (ap (λ (r : List Bit). record { number = some n; value = x } ∷ r) (kept_bits_append a b (suc n)))
+    rw e (ap (λ (r : List Bit). record { number = Some n; value = x } ∷ r) (kept_bits_append a b (suc n)))
 
 -- bits that were kept begin with a row
 pub begins_kept : (k n : ℕ) (bs : List Bool) (bits : List Bit) → k ≤ length bs → begin_with n k (kept_bits n bs ++ bits) ≡ true
@@ -135,7 +135,7 @@ unfolding number_at
 number_at-drop i bits j = ap (λ (b : Bit). b.number) (get_or-drop i bits j (new_bit false))
 
 -- the numbers are from n on
-at_least : {joined : List Bool} (i : ℕ) {n : ℕ} {bits : List Bit} (m : ℕ) → Numbered joined n bits → number_at bits i ≡ some m → n ≤ m
+at_least : {joined : List Bool} (i : ℕ) {n : ℕ} {bits : List Bit} (m : ℕ) → Numbered joined n bits → number_at bits i ≡ Some m → n ≤ m
 unfolding number_at new_bit
 at_least i m over e = absurd (let z : ◌≡◌ {A = ℕ} 0 1 = cc in omega arith)
 at_least zero m (foreign new later) e = absurd (let z : ◌≡◌ {A = ℕ} 0 1 = cc in omega arith)
@@ -144,8 +144,8 @@ at_least zero m (own m' at is value later) e = let same : m' ≡ m = cc in omega
 at_least (suc i) m (own m' at is value later) e = omega (arith, at_least i m later e)
 
 -- and ascend
-ascend : {joined : List Bool} (i d : ℕ) {n : ℕ} {bits : List Bit} (m m' : ℕ) → Numbered joined n bits → number_at bits i ≡ some m
-    → number_at (drop (suc i) bits) d ≡ some m' → m < m'
+ascend : {joined : List Bool} (i d : ℕ) {n : ℕ} {bits : List Bit} (m m' : ℕ) → Numbered joined n bits → number_at bits i ≡ Some m
+    → number_at (drop (suc i) bits) d ≡ Some m' → m < m'
 unfolding number_at new_bit
 ascend i d m m' over e e' = absurd (let z : ◌≡◌ {A = ℕ} 0 1 = cc in omega arith)
 ascend zero d m m' (foreign new later) e e' = absurd (let z : ◌≡◌ {A = ℕ} 0 1 = cc in omega arith)
@@ -154,7 +154,7 @@ ascend zero d m m' (own k at is value later) e e' = let same : k ≡ m = cc in o
 ascend (suc i) d m m' (own k at is value later) e e' = ascend i d m m' later e e'
 
 -- the last of the bits that begin with a row
-begin_last : (k a : ℕ) (bits : List Bit) → begin_with a (suc k) bits ≡ true → number_at bits k ≡ some (a + k)
+begin_last : (k a : ℕ) (bits : List Bit) → begin_with a (suc k) bits ≡ true → number_at bits k ≡ Some (a + k)
 unfolding number_at begin_with
 begin_last zero a (b ∷ bs) e = let z : a + 0 ≡ a = omega arith in rw z (is_number_lem a b.number (and_left (is_number a b.number) true e))
 begin_last zero a [] e = absurd (true≢false (sym e))
@@ -175,7 +175,7 @@ record Last (bits : List Bit) (a k r : ℕ) : Type 0 where
   number : ℕ
   before : suc at ≡ r
   behind : suc number ≡ a + k
-  is : number_at bits at ≡ some number
+  is : number_at bits at ≡ Some number
 
 row_last : (k : ℕ) (bits : List Bit) (a r : ℕ) → 0 < k → Row bits a k r → Last bits a k r
 row_last zero bits a r l h = absurd (omega arith)

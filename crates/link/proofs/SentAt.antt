@@ -2,7 +2,7 @@
 use Prim.Native.Nat.{ℕ, ◌+◌}
 use mathlib.Core.Bool.{Bool, true, false, cond, ◌&&◌}
 use mathlib.Core.List.{List, [], ◌∷◌, ◌++◌, map}
-use mathlib.Core.Option.{none, some}
+use Rattle.std.proofs.Common.{None, Some}
 use mathlib.Core.Path.{◌≡◌, refl, sym, ap, ◌∙◌}
 use lib.ListN.{length, replicate}
 use Rattle.bits.proofs.Tests.{and_both}
@@ -52,7 +52,7 @@ module _ (k : Circuit) (whole : Frame → Bool) where
   arrives_before [] n xs fs ps later = later n
   arrives_before (p ∷ before) n xs fs ps later =
       let behind = arrives_before before (n + length (frame p ++ flag)) xs fs ps later in
-      let f : Frame = record { from = n; packet = p; whose = none } in
+      let f : Frame = record { from = n; packet = p; whose = None } in
       record {
         arrivals = behind.arrivals;
         copies = behind.copies;
@@ -62,12 +62,12 @@ module _ (k : Circuit) (whole : Frame → Bool) where
       }
 
   arrives_copy : (n : ℕ) (q : Placed) (fs : List Frame) (ps : List Placed) → Arrives k whole fs ps
-      → Arrives k whole (record { from = n; packet = q.copy.packet; whose = some q } ∷ fs) (q ∷ ps)
+      → Arrives k whole (record { from = n; packet = q.copy.packet; whose = Some q } ∷ fs) (q ∷ ps)
   unfolding any_of all_of those is_copy_of is_of placed_at comes_in heard_in
   arrives_copy n q fs ps later = go (alike k q.circuit) refl
     where
       f : Frame
-      f = record { from = n; packet = q.copy.packet; whose = some q }
+      f = record { from = n; packet = q.copy.packet; whose = Some q }
 
       go : (b : Bool) → alike k q.circuit ≡ b → Arrives k whole (f ∷ fs) (q ∷ ps)
       go true e =

@@ -2,7 +2,7 @@
 use Prim.Native.Nat.{ℕ, suc, ◌+◌, ◌≤◌, ◌<◌}
 use mathlib.Core.Bool.{Bool, true, false, cond}
 use mathlib.Core.List.{List, [], ◌∷◌, ◌++◌, map}
-use mathlib.Core.Option.{Option, none, some}
+use Rattle.std.proofs.Common.{Option, None, Some}
 use mathlib.Core.Path.{◌≡◌}
 use lib.ListN.{length, take, drop, replicate}
 use Rattle.bits.specs.Bits.{Bytes}
@@ -95,8 +95,8 @@ pub record MadeSystem (packet : List ℕ) : Type 0 where
   pub bytes : Bytes information
 
 unfoldable pub MadeBy : Option Placed → List ℕ → Type 0
-MadeBy none packet = MadeSystem packet
-MadeBy (some q) packet = (packet ≡ q.copy.packet) × RightCircuit q.circuit × Made q.circuit q.copy
+MadeBy None packet = MadeSystem packet
+MadeBy (Some q) packet = (packet ≡ q.copy.packet) × RightCircuit q.circuit × Made q.circuit q.copy
 
 abbrev pub AllMade : List Frame → Type 0
 AllMade fs = AllAre (λ (f : Frame). MadeBy f.whose f.packet) fs
@@ -105,8 +105,8 @@ AllMade fs = AllAre (λ (f : Frame). MadeBy f.whose f.packet) fs
 
 -- the packets of frames that are a circuit's
 unfoldable pub is_of : Circuit → Option Placed → Bool
-is_of k none = false
-is_of k (some q) = alike k q.circuit
+is_of k None = false
+is_of k (Some q) = alike k q.circuit
 
 unfoldable pub packets_at : Circuit → List Frame → List (List ℕ)
 packets_at k [] = []

@@ -4,7 +4,7 @@
 -- `Rattle.queues.specs.Effects` has what they send and place, `Rattle.queues.specs.Sent` what of it is at a circuit, each packet counted once.
 use Rattle.std.specs.Prelude.{ℕ, zero, suc, ◌+◌, ◌-◌, ◌*◌, ◌<◌, Bool, true, false, cond, not, ◌&&◌, ◌||◌, ◌≡◌, length, take, drop, get_or, replicate, eqb}
 use mathlib.Core.List.{List, [], ◌∷◌, ◌++◌, map, flatten}
-use Rattle.std.proofs.Math.Option.{Option, none, some}
+use Rattle.std.specs.Prelude.{Option, None, Some}
 use Rattle.bits.specs.Bits.{Bytes}
 use Rattle.hdlc.specs.Frames.{flag, frame}
 use Rattle.hdlc.specs.Bodies.{holds, Body, bodies, Judged, passes, spoilt, nothing, judge}
@@ -81,10 +81,10 @@ pub record InBlock : Type 0 where
   pub whose : Option Placed
 
 abbrev pub not_ours : List ℕ → InBlock
-not_ours p = record { packet = p; whose = none }
+not_ours p = record { packet = p; whose = None }
 
 abbrev pub ours : Placed → InBlock
-ours q = record { packet = q.copy.packet; whose = some q }
+ours q = record { packet = q.copy.packet; whose = Some q }
 
 -- all of them, in order
 unfoldable pub packets_in : TakenBlock → List InBlock
@@ -118,10 +118,10 @@ pub record Bit : Type 0 where
 
 unfoldable pub kept_bits : ℕ → List Bool → List Bit
 kept_bits n [] = []
-kept_bits n (b ∷ bs) = record { number = some n; value = b } ∷ kept_bits (suc n) bs
+kept_bits n (b ∷ bs) = record { number = Some n; value = b } ∷ kept_bits (suc n) bs
 
 unfoldable pub new_bit : Bool → Bit
-new_bit b = record { number = none; value = b }
+new_bit b = record { number = None; value = b }
 
 -- the bits that result of pieces, the first of which begins at number n
 unfoldable pub resulting : ℕ → List Piece → List Bit
@@ -139,8 +139,8 @@ values bits = map (λ (b : Bit). b.value) bits
 
 -- "Bits lie together if nothing was put between them": the bits begin with the k that had the numbers from n on, in a row
 unfoldable pub is_number : ℕ → Option ℕ → Bool
-is_number n none = false
-is_number n (some m) = eqb m n
+is_number n None = false
+is_number n (Some m) = eqb m n
 
 unfoldable pub begin_with : ℕ → ℕ → List Bit → Bool
 begin_with n zero bits = true
@@ -158,8 +158,8 @@ came_whole bits f = together f.from (frame_length f) bits
 
 -- the frame is that of a copy of a circuit's packet number i
 unfoldable pub is_copy_of : Circuit → ℕ → Option Placed → Bool
-is_copy_of k i none = false
-is_copy_of k i (some q) = alike k q.circuit && eqb q.copy.number i
+is_copy_of k i None = false
+is_copy_of k i (Some q) = alike k q.circuit && eqb q.copy.number i
 
 -- "A placed packet .. has come if the frame of a copy came whole. Otherwise it is lost"
 unfoldable pub comes : Pass → Circuit → ℕ → Bool

@@ -18,6 +18,7 @@ use Rattle.hdlc.specs.Bodies.{starts_with, holds, flags_from, flags, bodies_afte
 use Rattle.packet.specs.Circuits.{circuits_of, wrong_length, address_ff, wrong_extension, alike, two_alike, circuits_refusal, list_refusal, listed, no_circuit, record_of, listing, number_from}
 use Rattle.packet.specs.Messages.{longest, header, headed, segment, packets, link_of}
 use Rattle.packet.specs.Packets.{control, extension_of, packet_of, system_packet}
+use Rattle.packet.specs.Answers.{answered}
 use Rattle.packet.specs.Lists.{any_of, all_of, those, first_from, AllAre}
 use Rattle.framing.specs.Machine.{empty, one_read, held, phase_after, keep, zero_read, step, closes, whole, check}
 use Rattle.framing.specs.Machine.{fresh as fresh_framing}
@@ -178,7 +179,7 @@ unfolding list nothing_wanted bits_sent torn reads_of two_circuits torn_calls to
     address control_in link extended index lead segment_in circuit_in first_from number_from descriptor code information enable malformed_system malformed
     two_bytes header_length message_length wrong_header is_copy loss_of still_open first_fate last_fate fate_of message_part closed_slot slot_after place_of store_after_fate store_after_notice
     heard_at heard_by system_heard heard passed with_framing noticed read_by read_scan read_refusal receiver_after_read store_after_read bits_read
-    after_read bits_of_read bits_of_reads read_of answer_to_read report_of told told_by_reads flatten
+    after_read bits_of_read bits_of_reads read_of answered answer_to_read report_of told told_by_reads flatten
     blocks packets_in frames_from frames_in_blocks frames frame_length kept_bits new_bit resulting result values
     is_number begin_with together came_whole is_copy_of all_of comes those each_once came from_first up_to_last from_first_to_last lost
     loss_at losses_at handed_from handed_at handed_over messages all_from messages_that_came is_passed is_frame no_other_passes circuit_at

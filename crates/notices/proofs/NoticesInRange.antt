@@ -1,6 +1,6 @@
 -- Notices in range: what a packet tells is, where the slots are in range.
 use Rattle.std.proofs.Common.{◌≡◌, ℕ, ◌+◌, ◌-◌, ◌<◌, ◌≤◌, true, false, cond, not, ◌&&◌, eqb, ltb, List, length, take, refl, arith, eqb-true}
-use mathlib.Core.Option.{Option, none, some}
+use Rattle.std.specs.Prelude.{Option, None, Some}
 use borrow.Author.Tests.{eqb-false}
 use Rattle.bits.specs.Bits.{Bytes}
 use Rattle.bits.proofs.Bits.{get_or-Bytes}
@@ -101,10 +101,10 @@ system_in_range slots p right there =
     record { enable = omega arith; code = right_code p right there; information = right_information p right there }
 
 module _ (cs : Circuits) (slots : List Slot) (range : slots_in_range (take cs.count slots) ≡ true) (few : cs.count ≤ 4) (p : List ℕ) (bytes : Bytes p) where
-  circuit_in_range : (o : Option ℕ) → ((n : ℕ) → o ≡ some n → (n < 4) × (slot_in_range (slot_at slots n) ≡ true)) → NoticeInRange (heard_by o slots p).notice
+  circuit_in_range : (o : Option ℕ) → ((n : ℕ) → o ≡ Some n → (n < 4) × (slot_in_range (slot_at slots n) ≡ true)) → NoticeInRange (heard_by o slots p).notice
   unfolding heard_by heard_at NoticeInRange
-  circuit_in_range none known = tt
-  circuit_in_range (some c) known =
+  circuit_in_range None known = tt
+  circuit_in_range (Some c) known =
       let t : Slot = slot_at slots c in
       record { number = (known c refl).0; loss = loss_in_range t p (known c refl).1; fate = fate_in_range t p bytes (known c refl).1 }
 

@@ -1,6 +1,5 @@
 -- A packet that passed is heard (document 01, "Notices").
-use Rattle.std.specs.Prelude.{ℕ, false, cond, List, length, ◌==◌, slice_set}
-use Rattle.std.proofs.Math.Option.{Option, none, some}
+use Rattle.std.specs.Prelude.{ℕ, false, cond, List, length, Option, None, Some, ◌==◌, slice_set}
 use Rattle.packet.specs.declared.Circuits.{Circuits}
 use Rattle.packet.specs.Circuits.{listed, number_from}
 use Rattle.parsing.specs.Packets.{address, link, circuit_in, code, information, enable, malformed}
@@ -22,8 +21,8 @@ heard_at c slots p =
 
 -- "Elsewhere: no listed circuit"
 unfoldable pub heard_by : Option ℕ → List Slot → List ℕ → Hearing
-heard_by (some c) slots p = heard_at c slots p
-heard_by none slots p = record { slots = slots; notice = Elsewhere; first = false }
+heard_by (Some c) slots p = heard_at c slots p
+heard_by None slots p = record { slots = slots; notice = Elsewhere; first = false }
 
 -- "System: enable bits, code, length"
 unfoldable pub system_heard : List Slot → List ℕ → Hearing

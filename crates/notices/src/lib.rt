@@ -1,21 +1,25 @@
 // What becomes of a packet that passed: the notice, the circuit's slot, and what is written.
 #![tactic(auto)]
 
-ghost use Rattle.std.specs.Prelude.{◌≡◌, ◌<◌, ◌≤◌, true, List, length, take};
-ghost use Rattle.parsing.specs.Packets.{lead};
-ghost use Rattle.notices.specs.declared.Slot.{Slot};
-ghost use Rattle.notices.specs.Slots.{slot_at, slot_in_range, slots_in_range};
-ghost use Rattle.notices.specs.Heard.{heard_at, system_heard, heard};
+ghost use Rattle.std.specs.Prelude.{◌≡◌, ◌≤◌, true, length, take};
+ghost use Rattle.parsing.specs.Packets.{code, information, enable};
+ghost use Rattle.notices.specs.declared.Notice.TheVariants.{System};
+ghost use Rattle.notices.specs.Slots.{slot_at, slots_in_range};
+ghost use Rattle.notices.specs.Heard.{heard_at, heard};
 
 pub mod fates;
+pub mod passed;
 pub mod slots;
 pub mod stores;
 
-use packet::{Circuits, Found};
-use parsing::packets;
+use packet::{Circuits, Link};
+use parsing::packets::Segmented;
+use passed::{Passed, PassedSegmented};
+use stores::CircuitSlot;
 
 // What a circuit has heard (specs/Slots.antt has the meaning of each field).
-#[derive(Clone, Copy)]
+// Stays: (a) `seen` beside `last`: records of any bytes come back as they were (receiver_unpacks and receiver_packs of receiver_layout), and an Option<u8> drops the `last` of a slot that is not seen.
+#[derive(Clone, Copy, Debug, PartialEq, Eq)]
 pub struct Slot {
     pub seen: bool,
     pub last: u8,
@@ -24,7 +28,7 @@ pub struct Slot {
 }
 
 // What became of a circuit's packet.
-#[derive(Clone, Copy)]
+#[derive(Clone, Copy, Debug, PartialEq, Eq)]
 pub enum Fate {
     Copy,
     Begun,
@@ -35,7 +39,7 @@ pub enum Fate {
 }
 
 // What a read tells.
-#[derive(Clone, Copy)]
+#[derive(Clone, Copy, Debug, PartialEq, Eq)]
 pub enum Notice {
     End,
     Spoilt,
@@ -46,83 +50,73 @@ pub enum Notice {
 }
 
 // What a packet leaves and tells, and whether it was the first packet of a listed circuit's message (link 10).
-#[derive(Clone, Copy)]
+#[derive(Clone, Copy, Debug, PartialEq, Eq)]
 pub struct Hearing {
     pub slots: [Slot; 4],
     pub notice: Notice,
     pub first: bool,
 }
 
-// A listed circuit's packet is heard.
-fn hear_circuit(slots: [Slot; 4], circuit: usize, p: &[u8]) -> Hearing
-    requires { (circuit < 4) × (slot_in_range (slot_at slots circuit) ≡ true) × (2 ≤ length p.now) × (lead p.now < length p.now)
-        × (length p.now ≤ 19) }
-    ensures { result ≡ heard_at circuit slots p.now }
+// A listed circuit's packet is heard, where its slot is among these.
+#[tactic(auto, using(parsing::proofs::Links::same_first), unfolding(crate::specs::Heard::heard_at))]
+fn hear_circuit(slots: [Slot; 4], at: CircuitSlot, passed: &PassedSegmented<'_>) -> Hearing
+    requires { at.slot ≡ slot_at slots at.circuit }
+    ensures { result ≡ heard_at at.circuit slots passed.now }
 {
-    let t = slots[circuit];
-    let fate = fates::fate_of(t, p);
-    let loss = fates::loss_told(t, p);
+    let slot = at.slot;
+    let segmented = passed.packet();
+    let packet = segmented.packet();
+    let fate = slot.fate_of(segmented);
     let mut after = slots;
-    after[circuit] = fates::slot_after(fate, t, p);
+    after[at.circuit] = slot.slot_after(fate, passed);
     Hearing {
         slots: after,
         notice: Notice::Circuit {
-            number: circuit,
-            loss,
+            number: at.circuit,
+            loss: slot.loss_told(packet),
             fate,
         },
-        first: packets::link_of(p) == 2,
+        first: packet.link() == Link::First,
     }
 }
 
 // The notice of a system packet.
-pub fn system_notice(p: &[u8]) -> Notice
-    requires { (2 ≤ length p.now) × (lead p.now < length p.now) }
-    ensures { (slots : List Slot) → result ≡ (system_heard slots p.now).notice }
+pub fn system_notice(packet: &Segmented<'_>) -> Notice
+    ensures { result ≡ System (enable packet.now) (code packet.now) (length (information packet.now)) }
 {
-    let information = packets::information_of(p);
     Notice::System {
-        enable: packets::enable_of(p),
-        code: packets::code_of(p),
-        length: information.len(),
-    }
-}
-
-// A system packet is heard.
-fn hear_system(slots: [Slot; 4], p: &[u8]) -> Hearing
-    requires { (2 ≤ length p.now) × (lead p.now < length p.now) }
-    ensures { result ≡ system_heard slots p.now }
-{
-    let notice = system_notice(p);
-    Hearing {
-        slots,
-        notice,
-        first: false,
+        enable: packet.packet().enable(),
+        code: packet.code(),
+        length: packet.information().len(),
     }
 }
 
 // A packet that passed is heard by the circuits with these slots.
-pub fn hear(circuits: Circuits, slots: [Slot; 4], p: &[u8]) -> Hearing
-    requires { (circuits.count ≤ 4) × (slots_in_range (take circuits.count slots) ≡ true) × (2 ≤ length p.now) × (length p.now ≤ 19) }
-    ensures { result ≡ heard circuits slots p.now }
+#[tactic(auto, unfolding(crate::specs::Heard::heard, crate::specs::Heard::heard_by, crate::specs::Heard::system_heard))]
+pub fn hear(circuits: Circuits, slots: [Slot; 4], passed: &Passed<'_>) -> Hearing
+    requires { (circuits.count ≤ 4) × (slots_in_range (take circuits.count slots) ≡ true) }
+    ensures { result ≡ heard circuits slots passed.now }
 {
-    if packets::malformed(p) {
+    let Some(packet) = passed.well_formed() else {
         return Hearing {
             slots,
             notice: Notice::Malformed,
             first: false,
         };
+    };
+    if passed.packet().address() == 0xff {
+        return Hearing {
+            slots,
+            notice: system_notice(packet.packet()),
+            first: false,
+        };
     }
-    if packets::address_of(p) == 0xff {
-        return hear_system(slots, p);
-    }
-    let circuit = packets::circuit_in(p);
-    let Found::At(number) = circuits.number_of(circuit) else {
+    let Some(number) = circuits.number_of(passed.packet().circuit()) else {
         return Hearing {
             slots,
             notice: Notice::Elsewhere,
             first: false,
         };
     };
-    hear_circuit(slots, number, p)
+    hear_circuit(slots, CircuitSlot::new(number, slots[number]), &packet)
 }

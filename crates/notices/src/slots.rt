@@ -1,34 +1,62 @@
 // Slots in range.
-ghost use Rattle.std.specs.Prelude.{◌≡◌, ◌≤◌, take};
+ghost use Rattle.std.specs.Prelude.{◌≡◌, ◌≤◌, true, take};
+ghost use Rattle.packet.specs.Messages.{longest};
 ghost use Rattle.notices.specs.Slots.{slot_in_range, slots_in_range};
 
 use super::Slot;
+use std::marker::Model;
+
+// A slot in range. A clause sees the slot.
+#[derive(Clone, Copy)]
+pub struct SlotInRange {
+    slot: Slot,
+}
+
+impl Model for SlotInRange {
+    ghost use Rattle.std.specs.Prelude.{◌≤◌};
+    ghost use Rattle.packet.specs.Messages.{longest};
+    ghost use Rattle.notices.specs.declared.Slot.{Slot};
+
+    ghost Value = { Slot };
+
+    ghost view = { λ t. t.slot };
+
+    ghost invariant = { λ t. (t.slot.last ≤ 7) × (t.slot.length ≤ longest) × (t.slot.place ≤ t.slot.length) };
+
+    ghost inverse = { λ slot. record { slot = slot } };
+}
+
+impl SlotInRange {
+    // The slot, which is in range.
+    #[tactic(auto, unfolding(crate::specs::Slots::slot_in_range))]
+    pub fn new(slot: Slot) -> SlotInRange
+        requires { slot_in_range slot ≡ true }
+        ensures { result ≡ slot }
+    {
+        SlotInRange { slot }
+    }
+
+    // The slot.
+    pub fn slot(self) -> Slot
+        ensures { (result ≡ self) × (result.last ≤ 7) × (result.length ≤ longest) × (result.place ≤ result.length) }
+    {
+        self.slot
+    }
+}
 
 // The slot is in range.
+#[tactic(auto, unfolding(crate::specs::Slots::slot_in_range, packet::specs::Messages::longest))]
 pub fn slot_in_range(t: Slot) -> bool
     ensures { result ≡ slot_in_range t }
 {
-    if 7 < t.last {
-        return false;
-    }
-    if packet::LONGEST_MESSAGE < t.length as usize {
-        return false;
-    }
-    t.place <= t.length
+    t.last <= 7 && usize::from(t.length) <= packet::LONGEST_MESSAGE && t.place <= t.length
 }
 
 // The first slots are in range.
+// Stays: (d) a line in four crates, of other slots in records and in bytes: one function for them would take the test of a slot, which is all that the line has.
 pub fn slots_in_range(slots: [Slot; 4], count: usize) -> bool
     requires { count ≤ 4 }
     ensures { result ≡ slots_in_range (take count slots) }
 {
-    let mut i = 0;
-    while i < count {
-        let t = slots[i];
-        if !slot_in_range(t) {
-            return false;
-        }
-        i += 1;
-    }
-    true
+    slots[..count].iter().all(|t| slot_in_range(*t))
 }

@@ -1,87 +1,104 @@
 // What a notice writes.
 ghost use Rattle.std.specs.Prelude.{◌≡◌, ◌+◌, ◌*◌, ◌<◌, ◌≤◌, true, length};
 ghost use Rattle.std.proofs.lemmas.List.Edits.{sets};
+ghost use Rattle.packet.specs.Messages.{longest};
 ghost use Rattle.packet.specs.Stores.{region};
-ghost use Rattle.parsing.specs.Packets.{lead, information};
+ghost use Rattle.parsing.specs.Packets.{information};
 ghost use Rattle.parsing.specs.Headers.{message_part};
 ghost use Rattle.notices.specs.Slots.{slot_in_range};
 ghost use Rattle.notices.specs.Stores.{system_place, store_length, place_of, store_after_fate, writable, store_after_notice};
 
+use super::passed::{Passed, PassedSegmented};
+use super::slots::SlotInRange;
 use super::{Fate, Notice, Slot};
-use parsing::{headers, packets};
+use packet::Link;
+use parsing::packets::Packet;
 
 // Where system information begins, behind the regions, and the store with it, in bytes.
 pub const SYSTEM: usize = 4 * packet::REGION;
 
+// Stays: (d) as a type, `store_length ≤ length store.old` is `store: &mut [u8; STORE]`, and each caller splits the store lent (`store.first_chunk_mut()`) and joins it again in its contract.
 pub const STORE: usize = SYSTEM + 16;
 
-// Where in its region a packet's message bytes go.
-fn place_of(t: Slot, p: &[u8]) -> usize
-    requires { 2 ≤ length p.now }
-    ensures { result ≡ place_of t p.now }
-{
-    if packets::link_of(p) == 2 {
-        return 0;
+// A listed circuit's number, and its slot in range.
+#[derive(Clone, Copy)]
+pub struct CircuitSlot {
+    pub circuit: usize,
+    pub slot: SlotInRange,
+    ghost listed: { circuit < 4 },
+}
+
+impl SlotInRange {
+    // Where in its region a packet's message bytes go.
+    #[tactic(auto, using(parsing::proofs::Links::same_first), unfolding(crate::specs::Stores::place_of, packet::specs::Messages::longest))]
+    fn place_of(self, packet: &Packet<'_>) -> usize
+        ensures { (result ≡ place_of self packet.now) × (result ≤ longest) }
+    {
+        if packet.link() == Link::First {
+            return 0;
+        }
+        let slot = self.slot();
+        usize::from(slot.place)
     }
-    t.place as usize
 }
 
-// A packet's message bytes go to their place in the circuit's region.
-fn write_part(store: &mut [u8], circuit: usize, t: Slot, p: &[u8])
-    requires { (circuit < 4) × (slot_in_range t ≡ true) × (store_length ≤ length store.old) × (2 ≤ length p.now)
-        × (lead p.now < length p.now) × (length p.now ≤ 19) }
-    ensures { store.new ≡ sets store.old (region * circuit + place_of t p.now) (message_part p.now) }
-{
-    let start = packet::REGION * circuit;
-    let at = place_of(t, p);
-    let part = headers::part_of(p);
-    copying::copy_at(&mut store[start..], at, part);
-}
+impl CircuitSlot {
+    // The slot of a circuit, which is in range.
+    pub fn new(circuit: usize, slot: Slot) -> CircuitSlot
+        requires { (circuit < 4) × (slot_in_range slot ≡ true) }
+        ensures { (result.circuit ≡ circuit) × (result.slot ≡ slot) }
+    {
+        CircuitSlot {
+            circuit,
+            slot: SlotInRange::new(slot),
+        }
+    }
 
-// The store after a circuit's packet.
-pub fn write_fate(store: &mut [u8], fate: Fate, circuit: usize, t: Slot, p: &[u8])
-    requires { (circuit < 4) × (slot_in_range t ≡ true) × (store_length ≤ length store.old) × (2 ≤ length p.now)
-        × (lead p.now < length p.now) × (length p.now ≤ 19) }
-    ensures { store.new ≡ store_after_fate fate circuit t p.now store.old }
-{
-    match fate {
-        Fate::Begun => write_part(store, circuit, t, p),
-        Fate::Held => write_part(store, circuit, t, p),
-        Fate::Whole(_) => write_part(store, circuit, t, p),
-        Fate::Copy => (),
-        Fate::Orphan => (),
-        Fate::Wrong => (),
+    // A packet's message bytes go to their place in the circuit's region.
+    #[tactic(auto, unfolding(crate::specs::Stores::store_length, crate::specs::Stores::system_place, packet::specs::Stores::region, packet::specs::Messages::longest))]
+    fn write_part(self, store: &mut [u8], packet: &PassedSegmented<'_>)
+        requires { store_length ≤ length store.old }
+        ensures { store.new ≡ sets store.old (region * self.circuit + place_of self.slot packet.now) (message_part packet.now) }
+    {
+        let start = packet::REGION * self.circuit;
+        let at = self.slot.place_of(packet.packet().packet());
+        copying::copy_at(&mut store[start..], at, packet.part());
+    }
+
+    // The store after a circuit's packet.
+    #[tactic(auto, unfolding(crate::specs::Stores::store_after_fate))]
+    pub fn write_fate(self, store: &mut [u8], fate: Fate, packet: &PassedSegmented<'_>)
+        requires { store_length ≤ length store.old }
+        ensures { store.new ≡ store_after_fate fate self.circuit self.slot packet.now store.old }
+    {
+        match fate {
+            Fate::Begun | Fate::Held | Fate::Whole(_) => self.write_part(store, packet),
+            Fate::Copy | Fate::Orphan | Fate::Wrong => (),
+        }
     }
 }
 
 // A system packet's information goes behind the regions.
-pub fn write_system(store: &mut [u8], p: &[u8])
-    requires { (store_length ≤ length store.old) × (2 ≤ length p.now) × (lead p.now < length p.now) × (length p.now ≤ 19) }
-    ensures { store.new ≡ sets store.old system_place (information p.now) }
+#[tactic(auto, unfolding(crate::specs::Stores::store_length, crate::specs::Stores::system_place, packet::specs::Stores::region))]
+pub fn write_system(store: &mut [u8], packet: &PassedSegmented<'_>)
+    requires { store_length ≤ length store.old }
+    ensures { store.new ≡ sets store.old system_place (information packet.now) }
 {
-    let information = packets::information_of(p);
-    copying::copy_at(store, SYSTEM, information);
+    copying::copy_at(store, SYSTEM, packet.information());
 }
 
 // What the notice of a packet writes, where the slots were these.
-pub fn write(store: &mut [u8], notice: Notice, slots: [Slot; 4], p: &[u8])
-    requires { (writable notice slots p.now ≡ true) × (store_length ≤ length store.old) × (2 ≤ length p.now) × (length p.now ≤ 19) }
-    ensures { store.new ≡ store_after_notice notice slots p.now store.old }
+#[tactic(auto, unfolding(crate::specs::Stores::store_after_notice, crate::specs::Stores::writable, crate::specs::Slots::slot_at, crate::specs::Slots::fresh_slot))]
+pub fn write(store: &mut [u8], notice: Notice, slots: [Slot; 4], packet: &Passed<'_>)
+    requires { (writable notice slots packet.now ≡ true) × (store_length ≤ length store.old) }
+    ensures { store.new ≡ store_after_notice notice slots packet.now store.old }
 {
     match notice {
-        Notice::End => (),
-        Notice::Spoilt => (),
-        Notice::Malformed => (),
-        Notice::System {
-            enable: _,
-            code: _,
-            length: _,
-        } => write_system(store, p),
-        Notice::Elsewhere => (),
-        Notice::Circuit {
-            number,
-            loss: _,
-            fate,
-        } => write_fate(store, fate, number, slots[number], p),
+        Notice::End | Notice::Spoilt | Notice::Malformed | Notice::Elsewhere => (),
+        Notice::System { .. } => write_system(store, &packet.segmented()),
+        Notice::Circuit { number, fate, .. } => {
+            let at = CircuitSlot::new(number, slots[number]);
+            at.write_fate(store, fate, &packet.segmented());
+        }
     }
 }

@@ -7,17 +7,17 @@ use mathlib.Core.List.{List, [], ◌∷◌}
 use lib.ListN.{length, take, get_or, set}
 use lib.Dec.{ltb, eqb}
 use borrow.Author.Tests.{leb-true, eqb-true, le-leb, eq-eqb, ne_eqb, ltb-true, ltb-false}
+use Rattle.std.specs.List.{list_all}
 use Rattle.bits.proofs.Tests.{and_both}
 use Rattle.packet.specs.Circuits.{circuits_refusal, listed}
-use Rattle.packet.specs.Lists.{all_of}
 use Rattle.packet.specs.Messages.{longest, packets}
 use Rattle.offering.specs.declared.Slot.{Slot}
 use Rattle.offering.specs.declared.Sender.{Sender}
 use Rattle.offering.specs.Record.{no_slot, slot_at, pending, slot_in_range, slots_in_range, in_range, PendingIffLeft}
 
 -- slots that are there
-pub slots_in_range_there : (n : ℕ) (ts : List Slot) → n ≤ length ts → slots_in_range n ts ≡ all_of slot_in_range (take n ts)
-unfolding slots_in_range all_of
+pub slots_in_range_there : (n : ℕ) (ts : List Slot) → n ≤ length ts → slots_in_range n ts ≡ list_all slot_in_range (take n ts)
+unfolding slots_in_range
 slots_in_range_there zero ts h = refl
 slots_in_range_there (suc n) [] h = absurd (omega arith)
 slots_in_range_there (suc n) (t ∷ ts) h = ap (λ b. slot_in_range t && b) (slots_in_range_there n ts (omega arith))
@@ -69,21 +69,6 @@ facts_slot_in_range t f =
     (le-leb _ _ f.place))
     (le-leb _ _ f.copy))
     (eq-eqb _ _ f.left)
-
--- where the tests before it pass, the last one decides: n are the message's packets
-pub slot_in_range_left : (t : Slot) (n : ℕ) → n ≡ packets t.length → t.index ≤ 7 → t.priority ≤ 3 → t.repetition ≤ 5 → t.length ≤ longest → t.place ≤ n
-    → t.copy ≤ t.repetition → eqb t.left (n - t.place) ≡ slot_in_range t
-unfolding slot_in_range
-slot_in_range_left t n e index priority repetition short place copy =
-    rw (
-      ← e,
-      le-leb t.index 7 index,
-      le-leb t.priority 3 priority,
-      le-leb t.repetition 5 repetition,
-      le-leb t.length longest short,
-      le-leb t.place n place,
-      le-leb t.copy t.repetition copy,
-    )
 
 -- a message is pending where packets are left, and only there
 pub pending-iff-left : PendingIffLeft

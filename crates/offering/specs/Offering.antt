@@ -18,6 +18,15 @@ offer_refusal s store c priority repetition message =
     (cond (ltb longest (length message)) 9
     (cond (pending (slot_at s c)) 10 0))))))
 
+-- the refusal of what is offered to a sender for n circuits, by 5 to 9; 0 if none of these holds
+unfoldable pub bounds_refusal : List ℕ → ℕ → ℕ → ℕ → ℕ → List ℕ → ℕ
+bounds_refusal store n c priority repetition message =
+    cond (ltb (length store) store_length) 5
+    (cond (not (ltb c n)) 6
+    (cond (ltb 3 priority) 7
+    (cond (ltb 5 repetition) 8
+    (cond (ltb longest (length message)) 9 0))))
+
 -- a circuit's slot with a message: all copies of all its packets wait, so that all its packets are still to go
 unfoldable pub offered_slot : Slot → ℕ → ℕ → List ℕ → Slot
 offered_slot t priority repetition message =

@@ -1,16 +1,17 @@
 // The sender's record: a sender is listed, and a message is offered at a circuit.
 #![tactic(auto)]
 
-ghost use Rattle.std.specs.Prelude.{◌≡◌, ◌≤◌, ◌<◌, length};
+ghost use Rattle.std.specs.Prelude.{◌≡◌, ◌+◌, ◌*◌, ◌≤◌, ◌<◌, length};
 ghost use Rattle.packet.specs.Answers.{answer_of};
 ghost use Rattle.packet.specs.Circuits.{list_refusal, listing};
 ghost use Rattle.packet.specs.Messages.{longest};
+ghost use Rattle.packet.specs.Stores.{region};
 ghost use Rattle.offering.specs.Record.{fresh};
-ghost use Rattle.offering.specs.Offering.{offer_refusal, offered_sender, sender_after_offer, store_after_offer};
+ghost use Rattle.offering.specs.Offering.{bounds_refusal, offer_refusal, offered_sender, offered_store, sender_after_offer, store_after_offer};
 
 pub mod slots;
 
-use packet::{Answer, Circuits};
+use packet::{Answer, Circuits, Listed, Refusal};
 use slots::{offered_slot, pending};
 
 // What a circuit has to send (specs/Record.antt has the meaning of each field).
@@ -34,18 +35,38 @@ pub struct Sender {
     pub enable: u8,
 }
 
-// What listing a sender answers.
+// A message for a circuit: its priority, how many copies of each packet follow the first, and its bytes.
 #[derive(Clone, Copy)]
-pub struct Listed {
-    pub answer: Answer,
-    pub sender: Sender,
+pub struct Offer<'a> {
+    pub circuit: usize,
+    pub priority: u8,
+    pub repetition: u8,
+    pub message: &'a [u8],
 }
 
-// What offering a message answers.
-#[derive(Clone, Copy)]
-pub struct Offered {
-    pub answer: Answer,
-    pub sender: Sender,
+impl Offer<'_> {
+    // What is offered is refused by 5 to 9, or not, by a sender for `count` circuits.
+    #[tactic(auto, unfolding(crate::specs::Offering::bounds_refusal, crate::specs::Record::store_length, packet::specs::Stores::region, packet::specs::Messages::longest, packet::specs::Answers::answer_of, packet::specs::Answers::answered, packet::specs::Answers::refusal_of))]
+    pub fn check_bounds(self, store: &[u8], count: usize) -> Answer
+        ensures { result ≡ answer_of (bounds_refusal store.now count self.entry.circuit self.entry.priority self.entry.repetition self.entry.message.now) }
+    {
+        if store.len() < Sender::STORE {
+            return Err(Refusal::ShortStore);
+        }
+        if count <= self.circuit {
+            return Err(Refusal::NoSuchCircuit);
+        }
+        if 3 < self.priority {
+            return Err(Refusal::PriorityTooHigh);
+        }
+        if 5 < self.repetition {
+            return Err(Refusal::RepetitionTooHigh);
+        }
+        if packet::LONGEST_MESSAGE < self.message.len() {
+            return Err(Refusal::MessageTooLong);
+        }
+        Ok(())
+    }
 }
 
 impl Sender {
@@ -55,6 +76,7 @@ impl Sender {
     pub const STORE: usize = 4 * packet::REGION;
 
     // The record of a sender that has sent nothing.
+    #[tactic(auto, unfolding(crate::specs::Record::fresh, crate::specs::Record::fresh_slot))]
     pub fn fresh(circuits: Circuits) -> Sender
         ensures { result ≡ fresh circuits }
     {
@@ -76,98 +98,50 @@ impl Sender {
     }
 
     // A sender for the circuits of a list.
-    pub fn list(bytes: &[u8]) -> Listed
-        ensures { (result.answer ≡ answer_of (list_refusal bytes.now)) × (result.sender ≡ fresh (listing bytes.now)) }
+    pub fn list(bytes: &[u8]) -> Listed<Sender>
+        ensures { (result.answer ≡ answer_of (list_refusal bytes.now)) × (result.«record» ≡ fresh (listing bytes.now)) }
     {
-        let listing = Circuits::list(bytes);
-        let circuits = listing.circuits;
-        Listed {
-            answer: packet::answer_of(listing.refusal),
-            sender: Sender::fresh(circuits),
-        }
+        Listed::of(bytes, Sender::fresh)
     }
 
-    // The number of an offer's refusal, 0 if it is accepted.
-    fn offer_refusal(
-        self,
-        store: &[u8],
-        circuit: usize,
-        priority: u8,
-        repetition: u8,
-        message: &[u8],
-    ) -> u8
-        ensures { result ≡ offer_refusal self store.now circuit priority repetition message.now }
+    // An offer is refused, or not.
+    #[tactic(auto, using(crate::proofs::Ranges::in_range_facts, crate::proofs::Offers::bounds_circuit), unfolding(crate::specs::Offering::bounds_refusal, crate::specs::Offering::offer_refusal, crate::specs::Record::slot_at, crate::specs::Record::no_slot, packet::specs::Answers::answer_of, packet::specs::Answers::answered, packet::specs::Answers::refusal_of))]
+    fn check_offer(&self, store: &[u8], offer: Offer<'_>) -> Answer
+        ensures { result ≡ answer_of (offer_refusal self.now store.now offer.entry.circuit offer.entry.priority offer.entry.repetition offer.entry.message.now) }
     {
         if !self.in_range() {
-            return 14;
+            return Err(Refusal::OutOfRange);
         }
-        if store.len() < Sender::STORE {
-            return 5;
+        offer.check_bounds(store, self.circuits.count as usize)?;
+        if pending(self.slots[offer.circuit]) {
+            Err(Refusal::Pending)
+        } else {
+            Ok(())
         }
-        let circuits = self.circuits;
-        let count = circuits.count as usize;
-        if count <= circuit {
-            return 6;
-        }
-        if 3 < priority {
-            return 7;
-        }
-        if 5 < repetition {
-            return 8;
-        }
-        if packet::LONGEST_MESSAGE < message.len() {
-            return 9;
-        }
-        let slots = self.slots;
-        let t = slots[circuit];
-        if pending(t) {
-            return 10;
-        }
-        0
     }
 
-    // The record with a message to send.
-    fn offered(self, circuit: usize, priority: u8, repetition: u8, message: &[u8]) -> Sender
-        requires { (circuit < 4) × (length message.now ≤ longest) }
-        ensures { result ≡ offered_sender self circuit priority repetition message.now }
+    // An offer is accepted: its message goes to the start of the circuit's region, and the circuit's slot has it to send.
+    #[tactic(auto, using(bits::proofs::Lists::sets_part), unfolding(crate::specs::Offering::offered_sender, crate::specs::Offering::offered_store, crate::specs::Record::slot_at, crate::specs::Record::no_slot, packet::specs::Stores::region))]
+    fn accept(&mut self, store: &mut [u8], offer: Offer<'_>)
+        requires { (offer.circuit < 4) × (length offer.message.now ≤ longest) × (region * offer.circuit + length offer.message.now ≤ length store.old) }
+        ensures { (self.new ≡ offered_sender self.old offer.entry.circuit offer.entry.priority offer.entry.repetition offer.entry.message.now)
+            × (store.new ≡ offered_store store.old offer.entry.circuit offer.entry.message.now) }
     {
-        let circuits = self.circuits;
-        let mut slots = self.slots;
-        let t = slots[circuit];
-        slots[circuit] = offered_slot(t, priority, repetition, message);
-        Sender {
-            circuits,
-            slots,
-            last: self.last,
-            enable: self.enable,
-        }
+        let start = Sender::REGION * offer.circuit;
+        copying::copy_in(&mut store[start..], offer.message);
+        let slot = self.slots[offer.circuit];
+        self.slots[offer.circuit] = offered_slot(slot, offer);
     }
 
     // A message is offered at a circuit.
-    pub fn offer(
-        self,
-        store: &mut [u8],
-        circuit: usize,
-        priority: u8,
-        repetition: u8,
-        message: &[u8],
-    ) -> Offered
-        ensures { (result.answer ≡ answer_of (offer_refusal self store.old circuit priority repetition message.now))
-            × (result.sender ≡ sender_after_offer self store.old circuit priority repetition message.now)
-            × (store.new ≡ store_after_offer self store.old circuit priority repetition message.now) }
+    #[tactic(auto, using(crate::proofs::Offers::accepted_room, crate::proofs::Offers::offer_refused, crate::proofs::Offers::offer_accepted))]
+    pub fn offer(&mut self, store: &mut [u8], offer: Offer<'_>) -> Answer
+        ensures { (result ≡ answer_of (offer_refusal self.old store.old offer.entry.circuit offer.entry.priority offer.entry.repetition offer.entry.message.now))
+            × (self.new ≡ sender_after_offer self.old store.old offer.entry.circuit offer.entry.priority offer.entry.repetition offer.entry.message.now)
+            × (store.new ≡ store_after_offer self.old store.old offer.entry.circuit offer.entry.priority offer.entry.repetition offer.entry.message.now) }
     {
-        let refusal = self.offer_refusal(store, circuit, priority, repetition, message);
-        if refusal != 0 {
-            return Offered {
-                answer: Answer::Refused(refusal),
-                sender: self,
-            };
-        }
-        let start = Sender::REGION * circuit;
-        copying::copy_in(&mut store[start..], message);
-        Offered {
-            answer: Answer::Accepted,
-            sender: self.offered(circuit, priority, repetition, message),
-        }
+        self.check_offer(store, offer)?;
+        self.accept(store, offer);
+        Ok(())
     }
 }

@@ -4,9 +4,10 @@ ghost use Rattle.packet.specs.Messages.{longest};
 ghost use Rattle.offering.specs.Record.{pending, slot_in_range, slots_in_range, in_range, PendingIffLeft};
 ghost use Rattle.offering.specs.Offering.{offered_slot};
 
-use super::{Sender, Slot};
+use super::{Offer, Sender, Slot};
 
 // A message of the slot has a copy to place.
+#[tactic(auto, unfolding(crate::specs::Record::pending))]
 pub fn pending(t: Slot) -> bool
     ensures { result ≡ pending t }
 {
@@ -14,6 +15,7 @@ pub fn pending(t: Slot) -> bool
 }
 
 // The slot is in range.
+#[tactic(auto, unfolding(crate::specs::Record::slot_in_range, packet::specs::Messages::longest))]
 pub fn slot_in_range(t: Slot) -> bool
     ensures { result ≡ slot_in_range t }
 {
@@ -42,33 +44,26 @@ pub fn slot_in_range(t: Slot) -> bool
 }
 
 // The first `count` slots are in range.
+// Stays: (d) a line in four crates, of other slots in records and in bytes: one function for them would take the test of a slot, which is all that the line has.
 fn slots_in_range(slots: [Slot; 4], count: usize) -> bool
     requires { count ≤ 4 }
     ensures { result ≡ slots_in_range count slots }
 {
-    let mut i = 0;
-    while i < count {
-        let t = slots[i];
-        if !slot_in_range(t) {
-            return false;
-        }
-        i += 1;
-    }
-    true
+    slots[..count].iter().all(|t| slot_in_range(*t))
 }
 
 // The slot with a message to send.
-pub fn offered_slot(t: Slot, priority: u8, repetition: u8, message: &[u8]) -> Slot
-    requires { length message.now ≤ longest }
-    ensures { result ≡ offered_slot t priority repetition message.now }
+pub fn offered_slot(t: Slot, offer: Offer<'_>) -> Slot
+    requires { length offer.message.now ≤ longest }
+    ensures { result ≡ offered_slot t offer.entry.priority offer.entry.repetition offer.entry.message.now }
 {
-    let packets = packet::packets(message.len()) as u16;
+    let packets = packet::packets(offer.message.len()) as u16;
     Slot {
         index: t.index,
-        priority,
-        repetition,
+        priority: offer.priority,
+        repetition: offer.repetition,
         copy: 0,
-        length: message.len() as u16,
+        length: offer.message.len() as u16,
         place: 0,
         left: packets,
     }
@@ -81,14 +76,15 @@ fn pending_iff_left()
 
 impl Sender {
     // The record is in range.
-    pub fn in_range(self) -> bool
-        ensures { result ≡ in_range self }
+    #[tactic(auto, unfolding(crate::specs::Record::in_range, packet::specs::Answers::answer_of, packet::specs::Answers::answered))]
+    pub fn in_range(&self) -> bool
+        ensures { result ≡ in_range self.now }
     {
         let circuits = self.circuits;
         if 4 < circuits.count {
             return false;
         }
-        if circuits.refusal() != 0 {
+        if circuits.check().is_err() {
             return false;
         }
         if 3 < self.last {

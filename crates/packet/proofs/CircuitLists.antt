@@ -5,9 +5,10 @@ use native.Mathlib.Numerals.{add-one}
 use native.Mathlib.Omega.{arith}
 use mathlib.Core.Bool.{Bool, true, false, cond, not, ◌&&◌, ◌||◌, and-eq-true_iff}
 use mathlib.Core.List.{List, [], ◌∷◌, ◌++◌}
-use mathlib.Core.Option.{none, some, some-injective, none-ne-some}
-use mathlib.Core.Path.{◌≡◌, refl, ap, sym, ◌∙◌}
-use borrow.Author.Tests.{ltb-false, eq-eqb, ne_eqb, eqb-true, eqb-false}
+use Rattle.std.specs.Prelude.{None, Some}
+use Rattle.std.specs.List.{list_any, range_with_len, position_or_len}
+use mathlib.Core.Path.{◌≡◌, refl, sym, ◌∙◌}
+use borrow.Author.Tests.{ltb-true, ltb-false, lt-ltb, le-ltb, eq-eqb, ne_eqb, eqb-true, eqb-false}
 use lib.Dec.{ltb, eqb}
 use lib.ListN.{length, take, drop, get_or, set, replicate, length-take, drop_of_length-le}
 use lib.Seq.{sets, take_all, drop-cons, take-append_seam, get_or-take, take-take}
@@ -22,55 +23,76 @@ use Rattle.packet.proofs.Lists.{take_min}
 drop_next : {A : Type 0} (l : List A) (i : ℕ) (d : A) → i < length l → drop i l ≡ get_or l i d ∷ drop (i + 1) l
 drop_next l i d h = rw add-one (drop-cons l i d h)
 
--- a search over what is left: it ends at an element that passes, goes on behind one that does not, and finds none at the end
-module _ {A : Type 0} (test : A → Bool) (i : ℕ) (l : List A) (d : A) where
-  pub first_from_found : i < length l → test (get_or l i d) ≡ true → first_from test (drop i l) i ≡ some i
-  unfolding first_from
-  first_from_found inside e = rw (drop_next l i d inside, e)
-
-  pub first_from_next : i < length l → test (get_or l i d) ≡ false → first_from test (drop i l) i ≡ first_from test (drop (i + 1) l) (i + 1)
-  unfolding first_from
-  first_from_next inside e = rw (drop_next l i d inside, e)
-
-  pub first_from_end : length l ≤ i → first_from test (drop i l) i ≡ none
-  unfolding first_from
-  first_from_end h = rw (drop_of_length-le l h)
-
 -- what a search finds: some element passes, and the number is an element's; or none passes
 module _ {A : Type 0} (test : A → Bool) where
-  pub first_from_some : (l : List A) (m n : ℕ) → first_from test l m ≡ some n → (any_of test l ≡ true) × (n < m + length l)
+  pub first_from_some : (l : List A) (m n : ℕ) → first_from test l m ≡ Some n → (any_of test l ≡ true) × (n < m + length l)
   unfolding first_from any_of
-  first_from_some [] m n e = absurd (none-ne-some n e)
+  first_from_some [] m n e = cc
   first_from_some (x ∷ l) m n e = go (test x) e (first_from_some l (m + 1) n)
     where
-      go : (t : Bool) → cond t (some m) (first_from test l (m + 1)) ≡ some n
-          → (first_from test l (m + 1) ≡ some n → (any_of test l ≡ true) × (n < m + 1 + length l)) → ((t || any_of test l) ≡ true) × (n < m + length (x ∷ l))
-      go true f later = let is : m ≡ n = some-injective m n f in (refl, omega arith)
+      go : (t : Bool) → cond t (Some m) (first_from test l (m + 1)) ≡ Some n
+          → (first_from test l (m + 1) ≡ Some n → (any_of test l ≡ true) × (n < m + 1 + length l)) → ((t || any_of test l) ≡ true) × (n < m + length (x ∷ l))
+      go true f later = let is : m ≡ n = cc in (refl, omega arith)
       go false f later = ((later f).0, omega (arith, (later f).1))
 
-  pub first_from-none : (l : List A) (m : ℕ) → first_from test l m ≡ none → any_of test l ≡ false
-  unfolding first_from any_of
-  first_from-none [] m e = refl
-  first_from-none (x ∷ l) m e = go (test x) e (first_from-none l (m + 1))
+-- tests of circuits by their numbers, of which n are left from number m on
+module _ (cs : List Circuit) where
+  pub list_any-numbers : (test : Circuit → Bool) (n m : ℕ) → m + n ≡ length cs
+      → list_any (λ i. test (get_or cs i no_circuit)) (range_with_len m n) ≡ any_of test (drop m cs)
+  unfolding any_of
+  list_any-numbers test zero m e =
+      let end : length cs ≤ m = omega arith in
+      rw (drop_of_length-le cs end)
+  list_any-numbers test (suc n) m e =
+      let inside : m < length cs = omega arith in
+      rw (drop_next cs m no_circuit inside, list_any-numbers test n (m + 1) (omega arith))
+
+  pub list_any-alike : (n m : ℕ) → m + n ≡ length cs
+      → list_any (λ i. any_of (alike (get_or cs i no_circuit)) (drop (i + 1) cs)) (range_with_len m n) ≡ two_alike (drop m cs)
+  unfolding two_alike
+  list_any-alike zero m e =
+      let end : length cs ≤ m = omega arith in
+      rw (drop_of_length-le cs end)
+  list_any-alike (suc n) m e =
+      let inside : m < length cs = omega arith in
+      rw (drop_next cs m no_circuit inside, list_any-alike n (m + 1) (omega arith))
+
+  position-numbers : (test : Circuit → Bool) (n m : ℕ) → m + n ≡ length cs
+      → (let p : ℕ = position_or_len (λ i. test (get_or cs i no_circuit)) (range_with_len m n) in
+      cond (ltb p (length (range_with_len m n))) (Some (m + p)) None) ≡ first_from test (drop m cs) m
+  unfolding first_from
+  position-numbers test zero m e =
+      let end : length cs ≤ m = omega arith in
+      rw (drop_of_length-le cs end)
+  position-numbers test (suc n) m e =
+      let inside : m < length cs = omega arith in
+      rw (drop_next cs m no_circuit inside) (go (test (get_or cs m no_circuit)) (position-numbers test n (m + 1) (omega arith)))
     where
-      go : (t : Bool) → cond t (some m) (first_from test l (m + 1)) ≡ none → (first_from test l (m + 1) ≡ none → any_of test l ≡ false)
-          → (t || any_of test l) ≡ false
-      go true f later = absurd (none-ne-some m (sym f))
-      go false f later = later f
+      later : (q l : ℕ) (t : Bool) → ltb q l ≡ t → cond (ltb (1 + q) (suc l)) (Some (m + (1 + q))) None ≡ cond t (Some (m + 1 + q)) None
+      later q l true e =
+          let h : q < l = ltb-true q l e in
+          let same : m + (1 + q) ≡ m + 1 + q = omega arith in
+          rw (lt-ltb (1 + q) (suc l) (omega arith), same)
+      later q l false e =
+          let h : l ≤ q = ltb-false q l e in
+          rw (le-ltb (1 + q) (suc l) (omega arith))
 
--- two alike among what is left: sought behind each circuit in turn
-module _ (i : ℕ) (l : List Circuit) where
-  pub two_alike_found : i < length l → any_of (alike (get_or l i no_circuit)) (drop (i + 1) l) ≡ true → two_alike (drop i l) ≡ true
-  unfolding two_alike
-  two_alike_found inside e = rw (drop_next l i no_circuit inside, e)
+      go : (t : Bool) → (let p : ℕ = position_or_len (λ i. test (get_or cs i no_circuit)) (range_with_len (m + 1) n) in
+          cond (ltb p (length (range_with_len (m + 1) n))) (Some (m + 1 + p)) None) ≡ first_from test (drop (m + 1) cs) (m + 1)
+          → (let p : ℕ = cond (not t) (1 + position_or_len (λ i. test (get_or cs i no_circuit)) (range_with_len (m + 1) n)) 0 in
+          cond (ltb p (length (m ∷ range_with_len (m + 1) n))) (Some (m + p)) None) ≡ cond t (Some m) (first_from test (drop (m + 1) cs) (m + 1))
+      go true h =
+          let same : m + 0 ≡ m = omega arith in
+          rw (lt-ltb 0 (length (m ∷ range_with_len (m + 1) n)) (omega arith), same)
+      go false h = later _ _ _ refl ∙ h
 
-  pub two_alike_next : i < length l → any_of (alike (get_or l i no_circuit)) (drop (i + 1) l) ≡ false → two_alike (drop i l) ≡ two_alike (drop (i + 1) l)
-  unfolding two_alike
-  two_alike_next inside e = rw (drop_next l i no_circuit inside, e)
-
-  pub two_alike_end : length l ≤ i → two_alike (drop i l) ≡ false
-  unfolding two_alike
-  two_alike_end h = rw (drop_of_length-le l h)
+  pub position-from_first : (test : Circuit → Bool) (n : ℕ) → n ≡ length cs
+      → (let p : ℕ = position_or_len (λ i. test (get_or cs i no_circuit)) (range_with_len 0 n) in
+      cond (ltb p (length (range_with_len 0 n))) (Some p) None) ≡ first_from test cs 0
+  position-from_first test n e =
+      let p : ℕ = position_or_len (λ i. test (get_or cs i no_circuit)) (range_with_len 0 n) in
+      let same : 0 + p ≡ p = omega arith in
+      rw same at (position-numbers test n 0 (omega arith))
 
 -- ---- the circuits of bytes, three bytes to a circuit
 
@@ -157,6 +179,15 @@ Stored_end cs list i few end stored =
 
 -- ---- circuits that are alike
 
+-- what the code's equality tests, in turn
+pub alike-fields : (a b : Circuit) → alike a b ≡ (eqb a.address b.address && (eqb a.extended b.extended && eqb a.extension b.extension))
+unfolding alike
+alike-fields a b = go (eqb a.address b.address) (eqb a.extended b.extended)
+  where
+    go : (s t : Bool) → (s && t && eqb a.extension b.extension) ≡ (s && (t && eqb a.extension b.extension))
+    go true t = refl
+    go false t = refl
+
 pub alike_is : (a b : Circuit) → alike a b ≡ true → a ≡ b
 unfolding alike
 alike_is a b e =
@@ -182,9 +213,6 @@ alike_comm a b = go (alike a b) (alike b a) refl refl
     go true false e f = sym (alike-swap a b e) ∙ f
     go false true e f = sym e ∙ alike-swap b a f
     go false false e f = refl
-
-pub any_of-alike : (c : Circuit) (cs : List Circuit) → any_of (λ d. alike d c) cs ≡ any_of (alike c) cs
-any_of-alike c cs = ap (λ test. any_of test cs) (λ i d. alike_comm d c i)
 
 -- the refusals 2, 3 and 4 of circuits that are accepted
 pub circuits_refusal-zero : (cs : List Circuit) → circuits_refusal cs ≡ 0
@@ -250,21 +278,12 @@ pub listed-record_of : (cs : List Circuit) → length cs ≤ 4 → listed (recor
 unfolding listed record_of
 listed-record_of cs h = rw (take-take (length cs) 4 (cs ++ replicate 4 no_circuit) h) (take-append_seam cs (replicate 4 no_circuit))
 
--- the refusal of a list by its length, or by its circuits
-pub list_refusal-length_wrong : (bs : List ℕ) → wrong_length (length bs) ≡ true → list_refusal bs ≡ 1
-unfolding list_refusal
-list_refusal-length_wrong bs e = rw e
-
-pub list_refusal-length_right : (bs : List ℕ) → wrong_length (length bs) ≡ false → list_refusal bs ≡ circuits_refusal (circuits_of bs)
-unfolding list_refusal
-list_refusal-length_right bs e = rw e
-
 -- a listing has the list's circuits if it accepts it; it has at most four, and none that listing refuses
-pub listing-accepted : (bs : List ℕ) → list_refusal bs ≡ 0 → listing bs ≡ record_of (circuits_of bs)
+listing-accepted : (bs : List ℕ) → list_refusal bs ≡ 0 → listing bs ≡ record_of (circuits_of bs)
 unfolding listing
 listing-accepted bs e = rw e
 
-pub listing_refused : (bs : List ℕ) → (list_refusal bs ≡ 0 → ⊥) → listing bs ≡ record_of []
+listing_refused : (bs : List ℕ) → (list_refusal bs ≡ 0 → ⊥) → listing bs ≡ record_of []
 unfolding listing
 listing_refused bs e = rw (ne_eqb (list_refusal bs) 0 e)
 
@@ -291,7 +310,7 @@ listing-refusal bs = listing_either (λ cs. circuits_refusal (listed cs) ≡ 0) 
     (λ e. rw (listed-record_of (circuits_of bs) (list_refusal-length bs e).1) (list_refusal-zero bs e).1) refl
 
 -- a circuit's number, where one is found, is a listed circuit's
-pub number_lt : (cs : Circuits) (c : Circuit) (n : ℕ) → number_from (listed cs) c 0 ≡ some n → n < cs.count
+pub number_lt : (cs : Circuits) (c : Circuit) (n : ℕ) → number_from (listed cs) c 0 ≡ Some n → n < cs.count
 unfolding listed number_from
 number_lt cs c n e =
     let h = (first_from_some (λ d. alike d c) (take cs.count cs.list) 0 n e).1 in

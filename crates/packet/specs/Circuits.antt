@@ -1,12 +1,7 @@
 -- Circuits and the rules of listing (document 01, "Circuits and records" and "Calls and their refusals").
-use Rattle.std.specs.Prelude.{ℕ, Bool, false, cond, not, ◌&&◌, ◌||◌, List, [], ◌∷◌, ◌++◌, length, take, replicate, ltb, eqb}
-use Rattle.std.proofs.Math.Option.{Option, none, some}
+use Rattle.std.specs.Prelude.{ℕ, Bool, false, cond, not, ◌&&◌, ◌||◌, List, [], ◌∷◌, ◌++◌, length, take, replicate, ltb, eqb, Option}
 use Rattle.packet.specs.declared.Circuit.{Circuit}
 use Rattle.packet.specs.declared.Circuits.{Circuits}
-use Rattle.packet.specs.declared.Rule.{Rule}
-use Rattle.packet.specs.declared.Rule.TheVariants.{AddressFF, WrongExtension, Alike}
-use Rattle.packet.specs.declared.Found.{Found}
-use Rattle.packet.specs.declared.Found.TheVariants.{At, Nowhere}
 use Rattle.packet.specs.Lists.{any_of, first_from}
 
 -- "A circuit list has one to four, numbered from 0, three bytes each: address, 1 or 0 for extension present, extension"
@@ -60,17 +55,6 @@ record_of cs = record { count = length cs; list = take 4 (cs ++ replicate 4 no_c
 unfoldable pub listing : List ℕ → Circuits
 listing bytes = cond (eqb (list_refusal bytes) 0) (record_of (circuits_of bytes)) (record_of [])
 
--- a circuit meets a rule of the code
-unfoldable pub meets : Rule → Circuit → Bool
-meets AddressFF = address_ff
-meets WrongExtension = wrong_extension
-meets (Alike d) = λ c. alike c d
-
 -- the number of the first of circuits that is this one, where the first has number n
 unfoldable pub number_from : List Circuit → Circuit → ℕ → Option ℕ
 number_from cs c n = first_from (λ d. alike d c) cs n
-
--- the number that the code found, or none
-unfoldable pub found_option : Found → Option ℕ
-found_option (At c) = some c
-found_option Nowhere = none

@@ -1,6 +1,15 @@
 -- Packets as bytes (document 01, "Messages and packets" and "Blocks").
 use Rattle.std.specs.Prelude.{ℕ, ◌+◌, ◌*◌, cond, List, [], ◌∷◌, ◌++◌, length, eqb}
 use Rattle.packet.specs.declared.Circuit.{Circuit}
+use Rattle.packet.specs.declared.Link.{Link}
+use Rattle.packet.specs.declared.Link.TheVariants.{Between, Last, First, System}
+
+-- the number of a link: "A7 A6 are 10 first or only, 01 last of several, 00 between", 11 of a system packet
+unfoldable pub link_number : Link → ℕ
+link_number Between = 0
+link_number Last = 1
+link_number First = 2
+link_number System = 3
 
 -- "Control: A7 A6 are [the link]; A5 extension present; A4 A3 A2 continuity index; A1 A0 priority, 3 highest"
 unfoldable pub control : ℕ → ℕ → ℕ → ℕ → ℕ

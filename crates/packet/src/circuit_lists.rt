@@ -1,12 +1,14 @@
 // Circuits are listed, judged and found.
 ghost use Rattle.std.specs.Prelude.{◌≡◌, [], ◌+◌, ◌*◌, ◌≤◌, min, length, drop, get_or};
-ghost use Rattle.packet.specs.Lists.{any_of, first_from};
-ghost use Rattle.packet.specs.Circuits.{circuits_of, wrong_length, wrong_extension, alike, meets, two_alike, circuits_refusal, list_refusal, listed, no_circuit, record_of, listing, number_from, found_option};
+ghost use Rattle.packet.specs.Answers.{answered, answer_of};
+ghost use Rattle.packet.specs.Lists.{any_of};
+ghost use Rattle.packet.specs.Circuits.{circuits_of, wrong_length, address_ff, wrong_extension, alike, two_alike, circuits_refusal, list_refusal, listed, no_circuit, record_of, listing, number_from};
 
-use super::{Circuit, Circuits, Found, Listing, Rule};
+use super::{Answer, Circuit, Circuits, Listed, Refusal};
 
 impl Circuit {
     // The place of no circuit.
+    #[tactic(auto, unfolding(crate::specs::Circuits::no_circuit))]
     fn none() -> Circuit
         ensures { result ≡ no_circuit }
     {
@@ -18,6 +20,7 @@ impl Circuit {
     }
 
     // Refusal 3's condition.
+    #[tactic(auto, unfolding(crate::specs::Circuits::wrong_extension))]
     fn wrong_extension(self) -> bool
         ensures { result ≡ wrong_extension self }
     {
@@ -29,34 +32,11 @@ impl Circuit {
         }
         false
     }
-
-    // The two are one circuit: refusal 4's condition.
-    fn alike(self, other: Circuit) -> bool
-        ensures { result ≡ alike self other }
-    {
-        if self.address != other.address {
-            return false;
-        }
-        if self.extended != other.extended {
-            return false;
-        }
-        self.extension == other.extension
-    }
-
-    // The circuit meets a rule.
-    fn meets(self, rule: Rule) -> bool
-        ensures { result ≡ meets rule self }
-    {
-        match rule {
-            Rule::AddressFF => self.address == 0xff,
-            Rule::WrongExtension => self.wrong_extension(),
-            Rule::Alike(other) => self.alike(other),
-        }
-    }
 }
 
 impl Circuits {
     // The record of no circuits.
+    #[tactic(auto, unfolding(crate::specs::Circuits::record_of))]
     pub fn none() -> Circuits
         ensures { result ≡ record_of [] }
     {
@@ -68,6 +48,7 @@ impl Circuits {
     }
 
     // Four circuits as a list's bytes.
+    // Stays: (a) field by field: `tests/arrays` names these twelve bytes.
     fn bytes(self) -> [u8; 12]
         ensures { circuits_of result ≡ self.list }
     {
@@ -96,28 +77,25 @@ impl Circuits {
     fn bytes_listed(self) -> usize
         ensures { result ≡ 3 * min self.count 4 }
     {
-        if 4 < self.count {
-            return 12;
-        }
-        3 * self.count as usize
+        3 * usize::from(self.count).min(4)
     }
 
     // The number of a circuit among those listed.
-    pub fn number_of(self, circuit: Circuit) -> Found
-        ensures { found_option result ≡ number_from (listed self) circuit 0 }
+    pub fn number_of(self, circuit: Circuit) -> Option<usize>
+        ensures { result ≡ number_from (listed self) circuit 0 }
     {
         let bytes = self.bytes();
         let n = self.bytes_listed();
         number_in(&bytes[..n], circuit)
     }
 
-    // The refusal of the listed circuits by 2, 3 or 4, or 0.
-    pub fn refusal(self) -> u8
-        ensures { result ≡ circuits_refusal (listed self) }
+    // The listed circuits are refused by 2, 3 or 4, or not.
+    pub fn check(self) -> Answer
+        ensures { result ≡ answer_of (circuits_refusal (listed self)) }
     {
         let bytes = self.bytes();
         let n = self.bytes_listed();
-        refusal(&bytes[..n])
+        check(&bytes[..n])
     }
 
     // The circuits of a list's bytes, of which there are at most twelve.
@@ -127,52 +105,52 @@ impl Circuits {
     {
         let no = Circuit::none();
         let mut list = [no; 4];
-        let mut i: usize = 0;
-        while i < bytes.len() / 3 {
+        let count = bytes.len() / 3;
+        for i in 0..count {
             list[i] = circuit_at(bytes, i);
-            i += 1;
         }
         Circuits {
-            count: i as u8,
+            count: count as u8,
             list,
         }
     }
 
     // A list's bytes, taken or refused.
-    pub fn list(bytes: &[u8]) -> Listing
-        ensures { (result.refusal ≡ list_refusal bytes.now) × (result.circuits ≡ listing bytes.now) }
+    #[tactic(auto, unfolding(crate::specs::Answers::answered, crate::specs::Answers::answer_of, crate::specs::Answers::refusal_of, crate::specs::Circuits::list_refusal, crate::specs::Circuits::listing, crate::specs::Circuits::wrong_length))]
+    pub fn list(bytes: &[u8]) -> Result<Circuits, Refusal>
+        ensures { result ≡ answered (list_refusal bytes.now) (listing bytes.now) }
     {
         if wrong_length(bytes.len()) {
-            let none = Circuits::none();
-            return Listing {
-                refusal: 1,
-                circuits: none,
-            };
+            return Err(Refusal::ListLength);
         }
-        let refusal = refusal(bytes);
-        if refusal != 0 {
-            let none = Circuits::none();
-            return Listing {
-                refusal,
-                circuits: none,
-            };
-        }
-        let circuits = Circuits::of(bytes);
-        Listing {
-            refusal: 0,
-            circuits,
+        check(bytes)?;
+        Ok(Circuits::of(bytes))
+    }
+}
+
+impl<T> Listed<T> {
+    // A record for the circuits of a list's bytes: `fresh` makes it.
+    #[tactic(auto, unfolding(crate::specs::Answers::answered, crate::specs::Answers::answer_of, crate::specs::Circuits::listing))]
+    pub fn of<F: FnOnce(Circuits) -> T>(bytes: &[u8], fresh: F) -> Listed<T>
+        requires { F.pre fresh (listing bytes.now) }
+        ensures answer { result.answer ≡ answer_of (list_refusal bytes.now) }
+        ensures made { F.post fresh (listing bytes.now) result.«record» }
+    {
+        let listing = Circuits::list(bytes);
+        let circuits = listing.unwrap_or(Circuits::none());
+        Listed {
+            answer: listing.map(|_| ()),
+            record: fresh(circuits),
         }
     }
 }
 
 // Refusal 1's condition.
+#[tactic(auto, unfolding(crate::specs::Circuits::wrong_length))]
 fn wrong_length(n: usize) -> bool
     ensures { result ≡ wrong_length n }
 {
-    match n {
-        3 | 6 | 9 | 12 => false,
-        _ => true,
-    }
+    !matches!(n, 3 | 6 | 9 | 12)
 }
 
 // The circuit with a number in a list's bytes.
@@ -188,65 +166,56 @@ fn circuit_at(list: &[u8], i: usize) -> Circuit
     }
 }
 
-// The number of the first circuit of a list's bytes, from number `from` on, that meets a rule.
-fn find(list: &[u8], rule: Rule, from: usize) -> Found
-    ensures { found_option result ≡ first_from (meets rule) (drop from (circuits_of list.now)) from }
+// Another circuit of a list's bytes, behind the one with number i, is alike.
+fn alike_behind(list: &[u8], i: usize) -> bool
+    requires { 3 * i + 3 ≤ length list.now }
+    ensures { result ≡ any_of (alike (get_or (circuits_of list.now) i no_circuit)) (drop (i + 1) (circuits_of list.now)) }
 {
-    let mut i = from;
-    while i < list.len() / 3 {
-        let c = circuit_at(list, i);
-        if c.meets(rule) {
-            return Found::At(i);
-        }
-        i += 1;
-    }
-    Found::Nowhere
+    let circuit = circuit_at(list, i);
+    (i + 1..list.len() / 3).any(|k| circuit == circuit_at(list, k))
 }
 
-// Some circuit of a list's bytes, from number `from` on, meets a rule.
-fn any(list: &[u8], rule: Rule, from: usize) -> bool
-    ensures { result ≡ any_of (meets rule) (drop from (circuits_of list.now)) }
+// Refusal 2's condition, of some circuit of a list's bytes.
+fn any_address_ff(list: &[u8]) -> bool
+    ensures { result ≡ any_of address_ff (circuits_of list.now) }
 {
-    match find(list, rule, from) {
-        Found::At(_) => true,
-        Found::Nowhere => false,
-    }
+    (0..list.len() / 3).any(|i| circuit_at(list, i).address == 0xff)
 }
 
-// Two circuits of a list's bytes are alike.
+// Refusal 3's condition, of some circuit of a list's bytes.
+fn any_wrong_extension(list: &[u8]) -> bool
+    ensures { result ≡ any_of wrong_extension (circuits_of list.now) }
+{
+    (0..list.len() / 3).any(|i| circuit_at(list, i).wrong_extension())
+}
+
+// Refusal 4's condition: two circuits of a list's bytes are alike.
 fn two_alike(list: &[u8]) -> bool
     ensures { result ≡ two_alike (circuits_of list.now) }
 {
-    let mut i = 0;
-    while i < list.len() / 3 {
-        let c = circuit_at(list, i);
-        if any(list, Rule::Alike(c), i + 1) {
-            return true;
-        }
-        i += 1;
-    }
-    false
+    (0..list.len() / 3).any(|i| alike_behind(list, i))
 }
 
-// The refusal of the circuits of a list's bytes by 2, 3 or 4, or 0.
-pub fn refusal(list: &[u8]) -> u8
-    ensures { result ≡ circuits_refusal (circuits_of list.now) }
+// The circuits of a list's bytes are refused by 2, 3 or 4, or not.
+#[tactic(auto, unfolding(crate::specs::Circuits::circuits_refusal, crate::specs::Answers::answer_of, crate::specs::Answers::answered, crate::specs::Answers::refusal_of))]
+pub fn check(list: &[u8]) -> Answer
+    ensures { result ≡ answer_of (circuits_refusal (circuits_of list.now)) }
 {
-    if any(list, Rule::AddressFF, 0) {
-        return 2;
+    if any_address_ff(list) {
+        return Err(Refusal::AddressFF);
     }
-    if any(list, Rule::WrongExtension, 0) {
-        return 3;
+    if any_wrong_extension(list) {
+        return Err(Refusal::WrongExtension);
     }
     if two_alike(list) {
-        return 4;
+        return Err(Refusal::TwoAlike);
     }
-    0
+    Ok(())
 }
 
 // The number of a circuit among those of a list's bytes.
-pub fn number_in(list: &[u8], circuit: Circuit) -> Found
-    ensures { found_option result ≡ number_from (circuits_of list.now) circuit 0 }
+pub fn number_in(list: &[u8], circuit: Circuit) -> Option<usize>
+    ensures { result ≡ number_from (circuits_of list.now) circuit 0 }
 {
-    find(list, Rule::Alike(circuit), 0)
+    (0..list.len() / 3).position(|i| circuit_at(list, i) == circuit)
 }

@@ -1,10 +1,10 @@
 // Circuits, messages and packets as bytes.
 #![tactic(auto)]
 
-ghost use Rattle.std.specs.Prelude.{◌≡◌, ◌*◌, ◌≤◌, ◌<◌, min, length, get_or};
-ghost use Rattle.packet.specs.Answers.{answer_of};
+ghost use Rattle.std.specs.Prelude.{◌≡◌, ◌≤◌, ◌<◌, length, get_or};
+ghost use Rattle.packet.specs.Answers.{refusal_number};
 ghost use Rattle.packet.specs.Messages.{longest, header, part_of, packets, link_of};
-ghost use Rattle.packet.specs.Packets.{control};
+ghost use Rattle.packet.specs.Packets.{link_number, control};
 
 pub mod circuit_lists;
 
@@ -14,7 +14,8 @@ pub const REGION: usize = 4096;
 pub const LONGEST_MESSAGE: usize = 4094;
 
 // A circuit: an address byte, with an extension byte where `extended` is 1.
-#[derive(Clone, Copy)]
+// Stays: (a) a record lent by C holds any three bytes here, and `wrong_extension` (refusals 3 and 14) speaks of all of them.
+#[derive(Clone, Copy, Debug, PartialEq, Eq)]
 pub struct Circuit {
     pub address: u8,
     pub extended: u8,
@@ -22,32 +23,18 @@ pub struct Circuit {
 }
 
 // One to four circuits, numbered from 0, or none.
+// Stays: (a) fixed memory, and the layout of a record lent by C, whose count may be any byte (`offering::in_range`, refusal 14).
 #[derive(Clone, Copy)]
 pub struct Circuits {
     pub count: u8,
     pub list: [Circuit; 4],
 }
 
-// What a circuit may be judged by: the conditions of refusals 2, 3 and 4.
+// What listing a record for circuits answers, and the record: one of no circuits where the list is refused.
 #[derive(Clone, Copy)]
-enum Rule {
-    AddressFF,
-    WrongExtension,
-    Alike(Circuit),
-}
-
-// What listing answers: the refusal's number, 0 if the list is accepted, and the record.
-#[derive(Clone, Copy)]
-pub struct Listing {
-    pub refusal: u8,
-    pub circuits: Circuits,
-}
-
-// The number of a circuit that was sought, if there is one.
-#[derive(Clone, Copy)]
-pub enum Found {
-    At(usize),
-    Nowhere,
+pub struct Listed<T> {
+    pub answer: Answer,
+    pub record: T,
 }
 
 // A part of a message: `len` bytes from byte `from` on.
@@ -58,6 +45,7 @@ pub struct Part {
 }
 
 // The number of bytes of the header of a message of n bytes.
+#[tactic(auto, unfolding(crate::specs::Messages::header))]
 pub fn header_length(n: usize) -> usize
     ensures { result ≡ length (header n) }
 {
@@ -65,6 +53,7 @@ pub fn header_length(n: usize) -> usize
 }
 
 // The first byte of that header.
+#[tactic(auto, unfolding(crate::specs::Messages::header, crate::specs::Messages::longest))]
 pub fn header_first(n: usize) -> u8
     requires { n ≤ longest }
     ensures { result ≡ get_or (header n) 0 0 }
@@ -76,6 +65,7 @@ pub fn header_first(n: usize) -> u8
 }
 
 // The second byte of that header, 0 if it has only one.
+#[tactic(auto, unfolding(crate::specs::Messages::header))]
 pub fn header_second(n: usize) -> u8
     requires { n ≤ longest }
     ensures { result ≡ get_or (header n) 1 0 }
@@ -86,13 +76,6 @@ pub fn header_second(n: usize) -> u8
     (n % 256) as u8
 }
 
-// The lesser of two numbers.
-fn least(a: usize, b: usize) -> usize
-    ensures { result ≡ min a b }
-{
-    if a <= b { a } else { b }
-}
-
 impl Part {
     // The part of a message of n bytes that stands in its segment k: segment 0 has the header before it.
     pub fn of(n: usize, k: usize) -> Part
@@ -101,72 +84,91 @@ impl Part {
     {
         let first = 16 - header_length(n);
         if k == 0 {
-            let len = least(first, n);
+            let len = first.min(n);
             return Part { from: 0, len };
         }
         let from = first + 16 * (k - 1);
-        let len = least(16, n - from);
+        let len = (n - from).min(16);
         Part { from, len }
     }
 }
 
 // The number of packets of a message of n bytes; of more than 15, the first packet has 14 and each later one at most 16.
+#[tactic(auto, unfolding(crate::specs::Messages::packets, crate::specs::Messages::header))]
 pub fn packets(n: usize) -> usize
     ensures { result ≡ packets n }
 {
     if n <= 15 { 1 } else { 2 + (n - 15) / 16 }
 }
 
-// The link number of packet `place`, from 0, of `packets`.
-pub fn link(place: usize, packets: usize) -> u8
-    ensures { result ≡ link_of place packets }
-{
-    if place == 0 {
-        return 2;
-    }
-    if packets <= place {
-        return 0;
-    }
-    if packets - place == 1 {
-        return 1;
-    }
-    0
+// The link of a packet: its number in A7 A6 of the control byte.
+#[derive(Clone, Copy, Debug, PartialEq, Eq)]
+pub enum Link {
+    Between = 0,
+    Last = 1,
+    First = 2,
+    System = 3,
 }
 
-// The link number in A7 A6 of a control byte.
-fn link_bits(link: u8) -> u8
-    requires { link < 4 }
-    ensures { result ≡ 64 * link }
-{
-    match link {
-        0 => 0,
-        1 => 64,
-        2 => 128,
-        _ => 192,
+impl Link {
+    // The link of packet `place`, from 0, of `packets`.
+    #[tactic(auto, unfolding(crate::specs::Messages::link_of, crate::specs::Packets::link_number))]
+    pub fn of(place: usize, packets: usize) -> Link
+        ensures { link_number result ≡ link_of place packets }
+    {
+        if place == 0 {
+            return Link::First;
+        }
+        if packets <= place {
+            return Link::Between;
+        }
+        if packets - place == 1 {
+            return Link::Last;
+        }
+        Link::Between
     }
 }
 
 // The control byte of a packet.
-pub fn control(link: u8, extended: u8, index: u8, priority: u8) -> u8
-    requires { (link < 4) × (extended < 2) × (index < 8) × (priority < 4) }
-    ensures { result ≡ control link extended index priority }
+#[tactic(auto, unfolding(crate::specs::Packets::control, crate::specs::Packets::link_number))]
+pub fn control(link: Link, extended: u8, index: u8, priority: u8) -> u8
+    requires { (extended < 2) × (index < 8) × (priority < 4) }
+    ensures { result ≡ control (link_number link) extended index priority }
 {
-    link_bits(link) + 32 * extended + 4 * index + priority
+    64 * link as u8 + 32 * extended + 4 * index + priority
 }
 
-// The answer of a call that has nothing else to tell: accepted, or refused with document 01's number.
-#[derive(Clone, Copy)]
-pub enum Answer {
-    Accepted,
-    Refused(u8),
+// The refusals, with their numbers: 1 to 15 of document 01, 16 and 17 of document 02.
+#[derive(Clone, Copy, Debug, PartialEq, Eq)]
+pub enum Refusal {
+    ListLength = 1,
+    AddressFF = 2,
+    WrongExtension = 3,
+    TwoAlike = 4,
+    ShortStore = 5,
+    NoSuchCircuit = 6,
+    PriorityTooHigh = 7,
+    RepetitionTooHigh = 8,
+    MessageTooLong = 9,
+    Pending = 10,
+    WrongSize = 11,
+    ShortBuffer = 12,
+    WrongSystem = 13,
+    OutOfRange = 14,
+    WrongStretch = 15,
+    ShortOutput = 16,
+    WrongPacket = 17,
 }
 
-// The answer that a refusal's number gives.
-pub fn answer_of(refusal: u8) -> Answer
-    ensures { result ≡ answer_of refusal }
-{
-    if refusal == 0 {
-        return Answer::Accepted;
+impl From<Refusal> for u32 {
+    ghost from_gives = { λ refusal n. n ≡ refusal_number refusal };
+
+    // A refusal's number.
+    #[tactic(auto, unfolding(crate::specs::Answers::refusal_number))]
+    fn from(refusal: Refusal) -> u32 {
+        refusal as u32
     }
-    Answer::Refused(refusal)
 }
+
+// The answer of a call that has nothing else to tell: accepted, or refused.
+pub type Answer = Result<(), Refusal>;

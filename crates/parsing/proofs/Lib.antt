@@ -1,3 +1,4 @@
 -- The laws of `parsing`.
+pub mod Links
 pub mod PacketParts
 pub mod HeaderParts

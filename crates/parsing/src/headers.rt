@@ -1,75 +1,114 @@
-// The header in a message's first packet, and the message bytes in a packet.
-ghost use Rattle.std.specs.Prelude.{◌≡◌, ◌≤◌, ◌<◌, length};
-ghost use Rattle.parsing.specs.Packets.{lead};
+// A packet's segment, the header in a message's first one, and the message bytes in a packet.
+ghost use Rattle.std.specs.Prelude.{◌≡◌, ◌+◌, ◌≤◌, drop, length};
 ghost use Rattle.parsing.specs.Headers.{two_bytes, header_length, message_length, wrong_header, message_part};
 
-use super::packets;
+use super::packets::Segmented;
+use packet::Link;
+use std::marker::Model;
 
-// A first segment's header has two bytes.
-fn two_bytes(s: &[u8]) -> bool
-    requires { 1 ≤ length s.now }
-    ensures { result ≡ two_bytes s.now }
-{
-    s[0] / 16 % 2 == 1
+// The segment of a packet. A clause sees its bytes: at least one.
+#[derive(Drop)]
+pub struct Segment<'a> {
+    bytes: &'a [u8],
 }
 
-// The length of a first segment's header.
-pub fn header_length(s: &[u8]) -> usize
-    requires { 1 ≤ length s.now }
-    ensures { result ≡ header_length s.now }
-{
-    if two_bytes(s) {
-        return 2;
-    }
-    1
+impl<'a> Model for Segment<'a> {
+    ghost use Rattle.std.specs.Prelude.{ℕ, List, ◌≤◌, length};
+
+    ghost Value = { List ℕ };
+
+    ghost view = { λ s. s.bytes.now };
+
+    ghost invariant = { λ s. 1 ≤ length s.bytes.now };
 }
 
-// The message length that a first segment's header holds.
-pub fn message_length(s: &[u8]) -> usize
-    requires { 1 ≤ length s.now }
-    ensures { result ≡ message_length s.now }
-{
-    let low = (s[0] % 16) as usize;
-    if !two_bytes(s) {
-        return low;
+impl<'a> Segment<'a> {
+    // The segment of these bytes.
+    pub fn new(bytes: &'a [u8]) -> Segment<'a>
+        requires { 1 ≤ length bytes.now }
+        ensures { result ≡ bytes.now }
+    {
+        Segment { bytes }
     }
-    if s.len() < 2 {
-        return 256 * low;
+
+    // Its bytes.
+    pub fn bytes(&self) -> &'a [u8]
+        ensures { result.now ≡ self.now }
+    {
+        self.bytes
     }
-    256 * low + s[1] as usize
+
+    // Its length in bytes.
+    pub fn len(&self) -> usize
+        ensures { result ≡ length self.now }
+    {
+        self.bytes.len()
+    }
+
+    // The header has two bytes.
+    #[tactic(auto, unfolding(crate::specs::Headers::two_bytes))]
+    fn two_bytes(&self) -> bool
+        ensures { result ≡ two_bytes self.now }
+    {
+        self.bytes[0] / 16 % 2 == 1
+    }
+
+    // The header's length.
+    #[tactic(auto, unfolding(crate::specs::Headers::header_length))]
+    pub fn header_length(&self) -> usize
+        ensures { result ≡ header_length self.now }
+    {
+        if self.two_bytes() { 2 } else { 1 }
+    }
+
+    // The bytes behind the header.
+    pub fn body(&self) -> &'a [u8]
+        ensures { (result.now ≡ drop (header_length self.now) self.now) × (length result.now ≤ length self.now) }
+    {
+        let header = self.header_length().min(self.bytes.len());
+        &self.bytes[header..]
+    }
+
+    // The message length that the header holds.
+    #[tactic(auto, unfolding(crate::specs::Headers::message_length))]
+    pub fn message_length(&self) -> usize
+        ensures { (result ≡ message_length self.now) × (result ≤ 4095) }
+    {
+        let low = self.bytes[0] % 16;
+        if !self.two_bytes() {
+            return usize::from(low);
+        }
+        let second = if self.bytes.len() < 2 {
+            0
+        } else {
+            self.bytes[1]
+        };
+        usize::from(u16::from_be_bytes([low, second]))
+    }
+
+    // The header is wrong.
+    #[tactic(auto, unfolding(crate::specs::Headers::wrong_header))]
+    pub fn header_wrong(&self) -> bool
+        ensures { result ≡ wrong_header self.now }
+    {
+        if !self.two_bytes() {
+            return false;
+        }
+        let n = self.message_length();
+        self.bytes.len() < 2 || n < 16 || n == 4095
+    }
 }
 
-// A first segment's header is wrong.
-pub fn header_wrong(s: &[u8]) -> bool
-    requires { 1 ≤ length s.now }
-    ensures { result ≡ wrong_header s.now }
-{
-    if !two_bytes(s) {
-        return false;
+impl<'a> Segmented<'a> {
+    // The message bytes in the packet.
+    #[tactic(auto, using(crate::proofs::Links::same_first), unfolding(crate::specs::Headers::message_part))]
+    pub fn part(&self) -> &'a [u8]
+        ensures { (result.now ≡ message_part self.now) × (length result.now + 2 ≤ length self.now) }
+    {
+        let segment = self.segment();
+        if self.packet().link() == Link::First {
+            return segment.body();
+        }
+        segment.bytes()
     }
-    if s.len() < 2 {
-        return true;
-    }
-    let n = message_length(s);
-    if n < 16 {
-        return true;
-    }
-    n == 4095
-}
-
-// The message bytes in a packet.
-pub fn part_of(p: &[u8]) -> &[u8]
-    requires { (2 ≤ length p.now) × (lead p.now < length p.now) }
-    ensures { result.now ≡ message_part p.now }
-{
-    let s = packets::segment_of(p);
-    if packets::link_of(p) != 2 {
-        return s;
-    }
-    let header = header_length(s);
-    let end = s.len();
-    if end < header {
-        return &s[end..];
-    }
-    &s[header..]
 }

@@ -1,7 +1,6 @@
 -- Picking and serving: what is known of the circuit that is picked; that it is the one of the highest rank; and that serving it
 -- leaves a record in range with one copy less to place.
-use Rattle.std.proofs.Common.{◌≡◌, ℕ, zero, suc, ◌+◌, ◌-◌, ◌*◌, ◌%◌, ◌<◌, ◌≤◌, Bool, true, false, cond, eqb, ltb, List, [], ◌∷◌, length, refl, ap, ◌∙◌, suc-mul, arith, length-set, ltb-false, ltb-true, le-ltb, lt-ltb, eq-eqb, eqb-true}
-use mathlib.Core.Option.{Option, none, some}
+use Rattle.std.proofs.Common.{◌≡◌, ℕ, zero, suc, ◌+◌, ◌-◌, ◌*◌, ◌%◌, ◌<◌, ◌≤◌, Bool, true, false, cond, eqb, ltb, List, [], ◌∷◌, length, Option, None, Some, refl, ap, ◌∙◌, suc-mul, arith, length-set, ltb-false, ltb-true, le-ltb, lt-ltb, eq-eqb, eqb-true}
 use borrow.Author.Tests.{eqb-false}
 use Rattle.packet.specs.Messages.{packets}
 use Rattle.offering.specs.declared.Slot.{Slot}
@@ -26,13 +25,13 @@ waits_at_facts s p c e =
     let (count, pending) = and_elim _ _ e₂ in
     record { count = ltb-true _ _ count; pending = pending; priority = eqb-true _ _ priority }
 
-first_waiting_waits : (s : Sender) (p : ℕ) (cs : List ℕ) (c : ℕ) → first_waiting s p cs ≡ some c → Waits s p c
+first_waiting_waits : (s : Sender) (p : ℕ) (cs : List ℕ) (c : ℕ) → first_waiting s p cs ≡ Some c → Waits s p c
 unfolding first_waiting
 first_waiting_waits s p [] c e = absurd (let z : ◌≡◌ {A = ℕ} 0 1 = cc in omega arith)
 first_waiting_waits s p (d ∷ cs) c e = go (waits_at s p d) refl e (first_waiting_waits s p cs c)
   where
-    go : (t : Bool) → waits_at s p d ≡ t → cond t (some d) (first_waiting s p cs) ≡ some c
-        → (first_waiting s p cs ≡ some c → Waits s p c) → Waits s p c
+    go : (t : Bool) → waits_at s p d ≡ t → cond t (Some d) (first_waiting s p cs) ≡ Some c
+        → (first_waiting s p cs ≡ Some c → Waits s p c) → Waits s p c
     go true w e later =
         let same : d ≡ c = cc in
         rw same at (waits_at_facts s p d w)
@@ -44,29 +43,29 @@ pub record Picked (s : Sender) (enable c : ℕ) : Type 0 where
   pub pending : pending (slot_at s c) ≡ true
   pub enabled : enabled enable (slot_at s c).priority ≡ true
 
-pick_from_waits : (s : Sender) (enable : ℕ) (ps : List ℕ) (c : ℕ) → pick_from s enable ps ≡ some c → Picked s enable c
+pick_from_waits : (s : Sender) (enable : ℕ) (ps : List ℕ) (c : ℕ) → pick_from s enable ps ≡ Some c → Picked s enable c
 unfolding pick_from or_else
 pick_from_waits s enable [] c e = absurd (let z : ◌≡◌ {A = ℕ} 0 1 = cc in omega arith)
 pick_from_waits s enable (p ∷ ps) c e = go (enabled enable p) refl e (pick_from_waits s enable ps c)
   where
-    first : (o : Option ℕ) → first_waiting s p (going_round s.last) ≡ o → or_else o (pick_from s enable ps) ≡ some c
-        → (pick_from s enable ps ≡ some c → Picked s enable c) → enabled enable p ≡ true → Picked s enable c
-    first none w e later on = later e
-    first (some d) w e later on =
+    first : (o : Option ℕ) → first_waiting s p (going_round s.last) ≡ o → or_else o (pick_from s enable ps) ≡ Some c
+        → (pick_from s enable ps ≡ Some c → Picked s enable c) → enabled enable p ≡ true → Picked s enable c
+    first None w e later on = later e
+    first (Some d) w e later on =
         let f = first_waiting_waits s p (going_round s.last) c (w ∙ e) in
         record { count = f.count; pending = f.pending; enabled = ap (enabled enable) f.priority ∙ on }
 
     go : (t : Bool) → enabled enable p ≡ t
-        → cond t (or_else (first_waiting s p (going_round s.last)) (pick_from s enable ps)) (pick_from s enable ps) ≡ some c
-        → (pick_from s enable ps ≡ some c → Picked s enable c) → Picked s enable c
+        → cond t (or_else (first_waiting s p (going_round s.last)) (pick_from s enable ps)) (pick_from s enable ps) ≡ Some c
+        → (pick_from s enable ps ≡ Some c → Picked s enable c) → Picked s enable c
     go true on e later = first (first_waiting s p (going_round s.last)) refl e later on
     go false on e later = later e
 
-pub pick_waits : (s : Sender) (enable c : ℕ) → pick s enable ≡ some c → Picked s enable c
+pub pick_waits : (s : Sender) (enable c : ℕ) → pick s enable ≡ Some c → Picked s enable c
 unfolding pick
 pick_waits s enable c e = pick_from_waits s enable (3 ∷ 2 ∷ 1 ∷ 0 ∷ []) c e
 
-pub pick_lt : (s : Sender) (enable c : ℕ) → in_range s ≡ true → pick s enable ≡ some c → c < 4
+pub pick_lt : (s : Sender) (enable c : ℕ) → in_range s ≡ true → pick s enable ≡ Some c → c < 4
 pick_lt s enable c e p =
     let f = in_range_facts s e in
     let g = pick_waits s enable c p in
@@ -131,11 +130,11 @@ module _ (s : Sender) (enable : ℕ) where
     before : (c : ℕ) → c < 4 → (c + 3 - s.last) % 4 < (k + 3 - s.last) % 4 → waits_at s p c ≡ false
     before c l sooner = waits_at-below p c on (omega (arith, best c l))
 
-    first_waiting_best : first_waiting s p (going_round s.last) ≡ some k
+    first_waiting_best : first_waiting s p (going_round s.last) ≡ Some k
     unfolding first_waiting going_round
     first_waiting_best = go ((k + 3 - s.last) % 4) refl
       where
-        go : (n : ℕ) → (k + 3 - s.last) % 4 ≡ n → first_waiting s p (going_round s.last) ≡ some k
+        go : (n : ℕ) → (k + 3 - s.last) % 4 ≡ n → first_waiting s p (going_round s.last) ≡ Some k
         go zero d =
             let e : (s.last + 1) % 4 ≡ k = omega arith in
             rw (e, waits)
@@ -157,7 +156,7 @@ module _ (s : Sender) (enable : ℕ) where
         go (suc (suc (suc (suc n)))) d = absurd (omega arith)
 
   first_waiting-none : (p : ℕ) → enabled enable p ≡ true → ((c : ℕ) → c < 4 → rank s enable c ≤ 4 * p)
-      → first_waiting s p (going_round s.last) ≡ none
+      → first_waiting s p (going_round s.last) ≡ None
   unfolding first_waiting going_round
   first_waiting-none p on h =
       rw (
@@ -179,16 +178,16 @@ module _ (s : Sender) (enable : ℕ) where
       go true on = rw (on, first_waiting-none p on h)
       go false off = rw off
 
-  pub pick_nobody : ((c : ℕ) → c < 4 → rank s enable c ≡ 0) → pick s enable ≡ none
+  pub pick_nobody : ((c : ℕ) → c < 4 → rank s enable c ≡ 0) → pick s enable ≡ None
   unfolding pick pick_from below
   pick_nobody h = go 4
     where
-      go : (n : ℕ) → pick_from s enable (below n) ≡ none
+      go : (n : ℕ) → pick_from s enable (below n) ≡ None
       go zero = refl
       go (suc p) = pick_from_next p (λ c l. omega (arith, h c l)) ∙ go p
 
   pub pick_best : (k : ℕ) → in_range s ≡ true → k < 4 → 0 < rank s enable k → ((c : ℕ) → c < 4 → rank s enable c ≤ rank s enable k)
-      → pick s enable ≡ some k
+      → pick s enable ≡ Some k
   unfolding pick pick_from below or_else waits_at
   pick_best k range small some-rank best = go 4 (omega (arith, (slot_in_range_facts (slot_at s k) (slot_in_range-slot_at s k range f.count)).priority))
     where
@@ -201,12 +200,12 @@ module _ (s : Sender) (enable : ℕ) where
       here : waits_at s (slot_at s k).priority k ≡ true
       here = rw (lt-ltb k s.circuits.count f.count, f.pending, eq-eqb (slot_at s k).priority (slot_at s k).priority refl)
 
-      go : (n : ℕ) → (slot_at s k).priority < n → pick_from s enable (below n) ≡ some k
+      go : (n : ℕ) → (slot_at s k).priority < n → pick_from s enable (below n) ≡ Some k
       go zero h = absurd (omega arith)
       go (suc p) h = at (eqb (slot_at s k).priority p) refl (λ l. go p l)
         where
-          at : (t : Bool) → eqb (slot_at s k).priority p ≡ t → ((slot_at s k).priority < p → pick_from s enable (below p) ≡ some k)
-              → pick_from s enable (below (suc p)) ≡ some k
+          at : (t : Bool) → eqb (slot_at s k).priority p ≡ t → ((slot_at s k).priority < p → pick_from s enable (below p) ≡ Some k)
+              → pick_from s enable (below (suc p)) ≡ Some k
           at true e lower =
               let same : (slot_at s k).priority ≡ p = eqb-true _ _ e in
               let first = first_waiting_best (slot_at s k).priority k (in_range_facts s range).last small f.enabled here (λ c l. omega (arith, best c l, r)) in
@@ -263,7 +262,7 @@ copies_served t e p =
     (λ h. rw (all, suc-mul) (omega arith))
 
 -- the record stays in range
-pub served_in_range : (s : Sender) (enable c : ℕ) → in_range s ≡ true → pick s enable ≡ some c → in_range (served s c) ≡ true
+pub served_in_range : (s : Sender) (enable c : ℕ) → in_range s ≡ true → pick s enable ≡ Some c → in_range (served s c) ≡ true
 unfolding served
 served_in_range s enable c e p =
     let f = in_range_facts s e in

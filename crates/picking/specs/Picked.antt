@@ -1,16 +1,8 @@
--- What the code's picking answers, as the definitions say it, and how it compares the circuits.
+-- How the code's picking compares the circuits.
 use Rattle.std.specs.Prelude.{ℕ, ◌+◌, ◌-◌, ◌*◌, ◌%◌, Bool, cond, ◌&&◌, nat_lt}
-use Rattle.std.proofs.Math.Option.{Option, none, some}
 use Rattle.offering.specs.declared.Sender.{Sender}
 use Rattle.offering.specs.Record.{slot_at, pending}
 use Rattle.picking.specs.Picking.{enabled}
-use Rattle.picking.specs.declared.Pick.{Pick}
-use Rattle.picking.specs.declared.Pick.TheVariants.{Circuit, Nobody}
-
--- the circuit number of an answer, if it has one
-unfoldable pub pick_option : Pick → Option ℕ
-pick_option (Circuit c) = some c
-pick_option Nobody = none
 
 -- a copy of an enabled priority waits at this circuit number
 unfoldable pub waits_enabled : Sender → ℕ → ℕ → Bool

@@ -1,6 +1,5 @@
 -- Which frame is next, and what placing it changes (document 01, "Blocks").
-use Rattle.std.specs.Prelude.{ℕ, ◌+◌, ◌-◌, ◌*◌, ◌/◌, ◌%◌, ◌^◌, Bool, cond, ◌&&◌, List, [], ◌∷◌, ◌==◌, nat_lt, slice_set}
-use Rattle.std.proofs.Math.Option.{Option, none, some}
+use Rattle.std.specs.Prelude.{ℕ, ◌+◌, ◌-◌, ◌*◌, ◌/◌, ◌%◌, ◌^◌, Bool, cond, ◌&&◌, List, [], ◌∷◌, ◌==◌, nat_lt, slice_set, Option, None, Some}
 use Rattle.bits.specs.Bits.{odd}
 use Rattle.packet.specs.Messages.{packets}
 use Rattle.offering.specs.declared.Slot.{Slot}
@@ -21,17 +20,17 @@ going_round last = ((last + 1) % 4) ∷ ((last + 2) % 4) ∷ ((last + 3) % 4) �
 
 -- "Among equals it is the first circuit" of these
 unfoldable pub first_waiting : Sender → ℕ → List ℕ → Option ℕ
-first_waiting s priority [] = none
-first_waiting s priority (c ∷ cs) = cond (waits_at s priority c) (some c) (first_waiting s priority cs)
+first_waiting s priority [] = None
+first_waiting s priority (c ∷ cs) = cond (waits_at s priority c) (Some c) (first_waiting s priority cs)
 
 -- the first answer that there is
 unfoldable pub or_else : Option ℕ → Option ℕ → Option ℕ
-or_else (some c) other = some c
-or_else none other = other
+or_else (Some c) other = Some c
+or_else None other = other
 
 -- "The next frame is a copy from the highest enabled priority waiting", of priorities from high to low
 unfoldable pub pick_from : Sender → ℕ → List ℕ → Option ℕ
-pick_from s enable [] = none
+pick_from s enable [] = None
 pick_from s enable (p ∷ ps) =
     cond (enabled enable p) (or_else (first_waiting s p (going_round s.last)) (pick_from s enable ps)) (pick_from s enable ps)
 

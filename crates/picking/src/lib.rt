@@ -2,10 +2,3 @@
 #![tactic(auto)]
 
 pub mod rule;
-
-// The circuit whose frame is next, if any waits.
-#[derive(Clone, Copy)]
-pub enum Pick {
-    Circuit(usize),
-    Nobody,
-}

@@ -7,6 +7,7 @@ ghost use Rattle.io.specs.Digits.{IsDigitCount};
 use std::io::Result;
 
 // Text, and its length.
+// Stays: (a) by hand and not by `print!`: each function here promises how many characters it gave to the system (`IsDigitCount`), which the macros do not, and the bytes need be no text.
 pub fn print(rt: &impl Print, text: &[u8]) -> Result<usize>
     ensures { IfOk result (λ n. n ≡ length text.now) }
 {
@@ -24,13 +25,12 @@ pub fn print_number(rt: &impl Print, n: usize) -> Result<usize>
     Ok(k)
 }
 
-// Spaces, n of them.
-fn print_spaces(rt: &impl Print, n: usize) -> Result<()>
+// Spaces, n of them, and how many there are.
+fn print_spaces(rt: &impl Print, n: usize) -> Result<usize>
     requires { n ≤ 20 }
+    ensures { IfOk result (λ k. k ≡ n) }
 {
-    let spaces = [32u8; 20];
-    print(rt, &spaces[0..n])?;
-    Ok(())
+    print(rt, &[b' '; 20][..n])
 }
 
 // A number in decimal digits, with spaces before it up to `width` characters, and how many characters there are.
@@ -40,12 +40,8 @@ pub fn print_right(rt: &impl Print, n: usize, width: usize) -> Result<usize>
 {
     let mut digits = [0u8; 20];
     let k = io::decimal(n as u64, &mut digits);
-    if width <= k {
-        return print(rt, &digits[..k]);
-    }
-    print_spaces(rt, width - k)?;
-    print(rt, &digits[..k])?;
-    Ok(width)
+    let spaces = print_spaces(rt, width.saturating_sub(k))?;
+    Ok(spaces + print(rt, &digits[..k])?)
 }
 
 // A number in hexadecimal digits, with zeros before it up to `width` digits, and how many digits there are.
@@ -62,23 +58,22 @@ pub fn print_hex(rt: &impl Print, n: usize, width: usize) -> Result<usize>
 pub fn print_bytes(rt: &impl Print, bytes: &[u8]) -> Result<usize>
     ensures { IfOk result (λ n. n ≡ 2 * length bytes.now) }
 {
-    let mut i = 0;
-    while i < bytes.len() {
-        print_hex(rt, bytes[i] as usize, 2)?;
-        i += 1;
+    let mut digits = 0;
+    for &byte in bytes {
+        digits += print_hex(rt, usize::from(byte), 2)?;
     }
-    Ok(2 * i)
+    Ok(digits)
 }
 
 // Numbers in decimal digits, a space before each, and how many there are.
 pub fn print_numbers(rt: &impl Print, numbers: &[u16]) -> Result<usize>
     ensures { IfOk result (λ k. k ≡ length numbers.now) }
 {
-    let mut k = 0;
-    while k < numbers.len() {
+    let mut count = 0;
+    for &number in numbers {
         print(rt, b" ")?;
-        print_number(rt, numbers[k] as usize)?;
-        k += 1;
+        print_number(rt, usize::from(number))?;
+        count += 1;
     }
-    Ok(k)
+    Ok(count)
 }

@@ -4,7 +4,7 @@ use Prim.Native.Nat.{ℕ, zero, suc, ◌+◌, ◌≤◌, ◌<◌}
 use native.Mathlib.Omega.{arith}
 use mathlib.Core.Bool.{Bool, true, false, cond, true≢false}
 use mathlib.Core.List.{List, [], ◌∷◌, ◌++◌, map, append_assoc, append-nil, nil≢cons}
-use mathlib.Core.Option.{Option, none}
+use Rattle.std.proofs.Common.{Option, None}
 use mathlib.Core.Path.{◌≡◌, refl, sym, ap, ◌∙◌}
 use lib.ListN.{length, get_or, set, get_or-eq_default}
 use lib.Dec.{ltb}
@@ -181,7 +181,7 @@ module _ (k : Circuit) where
 
   at_none : (q : Queues) → AtCircuit q [] [] q
   unfolding ruled_queues in_force
-  at_none q = at_ruled q none
+  at_none q = at_ruled q None
 
   at_append : (q : Queues) (ms : List Message) (ps : List Placed) (r : Queues) (ms' : List Message) (ps' : List Placed) (s : Queues)
       → AtCircuit q ms ps r → AtCircuit r ms' ps' s → AtCircuit q (ms ++ ms') (ps ++ ps') s

@@ -4,7 +4,7 @@ use Prim.Native.Nat.{ℕ, zero, suc, ◌+◌}
 use native.Mathlib.Omega.{arith}
 use mathlib.Core.Bool.{Bool, true, false, cond}
 use mathlib.Core.List.{List, [], ◌∷◌, ◌++◌}
-use mathlib.Core.Option.{Option, none, some}
+use Rattle.std.proofs.Common.{Option, None, Some}
 use mathlib.Core.Path.{◌≡◌, refl, sym, ap, ◌∙◌}
 use lib.ListN.{length, get_or, set}
 use lib.Dec.{leb}
@@ -39,8 +39,8 @@ module _ (q : Queues) (at u : ℕ) where
       → ((c : ℕ) (x : Copy) (xs : List Copy) → (queue_at q c).copies ≡ x ∷ xs → (next : ℕ) → f c next ≡ g c next)
       → taking o q at u f ≡ taking o q at u g
   unfolding taking taking_first
-  taking_later none f g agree = refl
-  taking_later (some c) f g agree = go (queue_at q c).copies refl
+  taking_later None f g agree = refl
+  taking_later (Some c) f g agree = go (queue_at q c).copies refl
     where
       go : (l : List Copy) → (queue_at q c).copies ≡ l → taking_first l q c at u (f c) ≡ taking_first l q c at u (g c)
       go [] e = refl
@@ -52,8 +52,8 @@ module _ (q : Queues) (at u : ℕ) where
       → P (and_taken (record { circuit = (queue_at q c).circuit; copy = x }) (f c next)))
       → P (taking o q at u f)
   unfolding taking taking_first
-  taking_cases P none f ends goes = ends
-  taking_cases P (some c) f ends goes = go (queue_at q c).copies refl
+  taking_cases P None f ends goes = ends
+  taking_cases P (Some c) f ends goes = go (queue_at q c).copies refl
     where
       test : (t : Taken) → P t → (b : Bool) → P (cond b t (taken_none q))
       test t h true = h

@@ -3,7 +3,7 @@ use Prim.Native.Nat.{ℕ, zero, suc, ◌+◌, ◌≤◌, ◌<◌}
 use native.Mathlib.Omega.{arith}
 use mathlib.Core.Bool.{Bool, true, false, cond}
 use mathlib.Core.List.{List, [], ◌∷◌}
-use mathlib.Core.Option.{Option, none, some}
+use Rattle.std.proofs.Common.{Option, None, Some}
 use mathlib.Core.Path.{◌≡◌, refl, sym, ap, ap₂, subst}
 use lib.ListN.{length, take, get_or}
 use lib.Dec.{leb}
@@ -40,14 +40,14 @@ module _ (s : Sender) (store : List ℕ) (q : Queues) (h : Stands s store q) whe
 
   -- one frame, and what comes later
   FilledAs-placing : (enable at u : ℕ) (f : ℕ → Filled) (g : ℕ → ℕ → Taken)
-      → ((c : ℕ) → pick s enable ≡ some c → FilledAs store (f c) (g c (at + length (next_frame s store c))))
+      → ((c : ℕ) → pick s enable ≡ Some c → FilledAs store (f c) (g c (at + length (next_frame s store c))))
       → FilledAs store (placing (pick s enable) s store at u f) (taking (pick s enable) q at u g)
   unfolding placing taking taking_first next_frame
   FilledAs-placing enable at u f g later = go (pick s enable) refl
     where
       go : (o : Option ℕ) → pick s enable ≡ o → FilledAs store (placing o s store at u f) (taking o q at u g)
-      go none e = FilledAs-none
-      go (some c) e =
+      go None e = FilledAs-none
+      go (Some c) e =
           rw (stands_first s store q h enable c e)
           (FilledAs_more c _ (f c) (g c (at + length (next_frame s store c))) (later c e) (leb (at + length (next_frame s store c)) u))
 

@@ -4,7 +4,7 @@ use Prim.Native.Nat.{ℕ, ◌*◌, ◌≤◌, ◌<◌}
 use native.Mathlib.Omega.{arith}
 use mathlib.Core.Bool.{Bool, true, false}
 use mathlib.Core.List.{List, [], ◌∷◌}
-use mathlib.Core.Option.{some}
+use Rattle.std.proofs.Common.{Some}
 use mathlib.Core.Path.{◌≡◌, refl, sym, ap, ◌∙◌}
 use lib.ListN.{length, take, drop, get_or, set, length-set, get_or-eq_default}
 use lib.Seq.{get_or-set_same, get_or-set_other}
@@ -118,7 +118,7 @@ module _ (s : Sender) (store : List ℕ) (q : Queues) (h : Stands s store q) whe
           )
           (h.each i e)
 
-  module _ (enable c : ℕ) (e : pick s enable ≡ some c) where
+  module _ (enable c : ℕ) (e : pick s enable ≡ Some c) where
     picked : Picked s enable c
     picked = pick_waits s enable c e
 

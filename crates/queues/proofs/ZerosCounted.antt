@@ -9,6 +9,7 @@ use borrow.Author.Tests.{eqb-true}
 use lib.ListN.{length, length-append, length-map}
 use Rattle.hdlc.proofs.AddedZeros.{length_flagged_added, added-zeros}
 use Rattle.hdlc.proofs.Ending.{length-flag}
+use Rattle.packet.specs.Answers.{answered}
 use Rattle.packet.specs.Circuits.{listed, listing}
 use Rattle.sender.specs.Blocks.{
   frames_bits,
@@ -58,7 +59,7 @@ as_many fs ps same =
 -- the answer of one call
 pub answered_accepted : (call : Call) (e : End) (q : Queues) → Stands e.sender e.store q → accepted e call ≡ true
     → answer_to e call ≡ map answer_by_packets (taken_by q (effect call))
-unfolding answer_to taken_by accepted effect answer_by_packets answer_to_block made_of used_bits block_packets
+unfolding answer_to taken_by accepted effect answer_by_packets answer_to_block made_of answered used_bits block_packets
 answered_accepted (offer c priority repetition message) e q h a = refl
 answered_accepted (block n u buffer y) e q h a =
     let z : block_refusal e.sender e.store buffer n u y ≡ 0 = eqb-true (block_refusal e.sender e.store buffer n u y) 0 a in

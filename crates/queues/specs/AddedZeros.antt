@@ -1,11 +1,11 @@
 -- The answers to block calls, by the packets that are in their blocks, with the zeros that stuffing added (document 02, ask 6).
-use Rattle.std.specs.Prelude.{ℕ, ◌+◌, ◌*◌, ◌/◌, ◌≤◌, cond, List, [], ◌∷◌, ◌++◌, map, ◌≡◌, length}
+use Rattle.std.specs.Prelude.{ℕ, ◌+◌, ◌*◌, ◌/◌, ◌≤◌, cond, List, [], ◌∷◌, ◌++◌, map, ◌≡◌, length, Result, Ok}
 use Rattle.hdlc.specs.Frames.{added_in}
+use Rattle.packet.specs.declared.Refusal.{Refusal}
 use Rattle.packet.specs.Circuits.{listed, listing}
 use Rattle.sender.specs.Blocks.{added_in_frames}
 use Rattle.sender.specs.BlockCalls.{answer_to_block}
-use Rattle.sender.specs.declared.Made.{Made}
-use Rattle.sender.specs.declared.Made.TheVariants.{Block}
+use Rattle.sender.specs.declared.Block.{Block}
 use Rattle.queues.specs.Queues.{fresh_queues}
 use Rattle.queues.specs.Effects.{TakenBlock, packets_taken, blocks_taken}
 use Rattle.queues.specs.Calls.{Call, offer, block, End, fresh_end, accepted, after_call, effects}
@@ -21,18 +21,18 @@ fifths [] = 0
 fifths (p ∷ ps) = 8 * (length p + 2) / 5 + fifths ps
 
 -- the answer by what is in a block: "the sum over its frames, the system frame included"
-unfoldable pub answer_by_packets : TakenBlock → Made
+unfoldable pub answer_by_packets : TakenBlock → Result Block Refusal
 answer_by_packets b =
     let packets = b.before ++ packets_taken b.frames in
-    Block (length b.frames) (used_for packets) (added_in_frames packets)
+    Ok (record { placed = length b.frames; used = used_for packets; zeros = added_in_frames packets })
 
 -- the answer to a block call
-unfoldable pub answer_to : End → Call → List Made
+unfoldable pub answer_to : End → Call → List (Result Block Refusal)
 answer_to e (offer c priority repetition message) = []
 answer_to e (block n u buffer y) = answer_to_block e.sender e.store buffer n u y ∷ []
 
 -- the answers to those that are accepted, in order
-unfoldable pub answers_to : End → List Call → List Made
+unfoldable pub answers_to : End → List Call → List (Result Block Refusal)
 answers_to e [] = []
 answers_to e (call ∷ calls) = cond (accepted e call) (answer_to e call) [] ++ answers_to (after_call e call) calls
 

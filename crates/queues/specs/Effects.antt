@@ -1,6 +1,5 @@
 -- What calls do to the queues, and what is sent and placed by it (document 01, "What demand 3 counts").
-use Rattle.std.specs.Prelude.{ℕ, Bool, List, [], ◌∷◌, ◌++◌, map, length}
-use Rattle.std.proofs.Math.Option.{Option}
+use Rattle.std.specs.Prelude.{ℕ, Bool, List, [], ◌∷◌, ◌++◌, map, length, Option}
 use Rattle.sender.specs.Blocks.{flagged_frames, block_of}
 use Rattle.queues.specs.Queues.{Message, message_for, Queues, queue_at, offer_queues, ruled_queues, Placed, Taken, take_frames}
 

@@ -1,8 +1,7 @@
 -- What offering and block making mean, beside any record: queues of waiting copies (document 01, "Messages and packets" and "What demand 3
 -- counts"). "An accepted offer sends its message at its circuit: all copies of its packets then wait there, in order. An accepted
 -- block call places frames as the block rule says, each the first copy waiting at its circuit, which then waits no more."
-use Rattle.std.specs.Prelude.{ℕ, zero, suc, ◌+◌, ◌%◌, Bool, true, false, cond, List, [], ◌∷◌, ◌++◌, map, length, get_or, set, replicate, leb, eqb}
-use Rattle.std.proofs.Math.Option.{Option, none, some}
+use Rattle.std.specs.Prelude.{ℕ, zero, suc, ◌+◌, ◌%◌, Bool, true, false, cond, List, [], ◌∷◌, ◌++◌, map, length, get_or, set, replicate, leb, eqb, Option, None, Some}
 use Rattle.hdlc.specs.Frames.{flag, frame}
 use Rattle.packet.specs.declared.Circuit.{Circuit}
 use Rattle.packet.specs.Circuits.{alike, no_circuit}
@@ -105,11 +104,11 @@ front_has priority [] = false
 front_has priority (copy ∷ copies) = eqb copy.priority priority
 
 unfoldable pub first_queue : Queues → ℕ → List ℕ → Option ℕ
-first_queue q priority [] = none
-first_queue q priority (c ∷ cs) = cond (front_has priority (queue_at q c).copies) (some c) (first_queue q priority cs)
+first_queue q priority [] = None
+first_queue q priority (c ∷ cs) = cond (front_has priority (queue_at q c).copies) (Some c) (first_queue q priority cs)
 
 unfoldable pub pick_queue_from : Queues → ℕ → List ℕ → Option ℕ
-pick_queue_from q enable [] = none
+pick_queue_from q enable [] = None
 pick_queue_from q enable (p ∷ ps) =
     cond (enabled enable p) (or_else (first_queue q p (going_round q.last)) (pick_queue_from q enable ps)) (pick_queue_from q enable ps)
 
@@ -158,8 +157,8 @@ taking_first (copy ∷ copies) q c at u later =
     cond (leb next u) (and_taken (record { circuit = (queue_at q c).circuit; copy = copy }) (later next)) (taken_none q)
 
 unfoldable pub taking : Option ℕ → Queues → ℕ → ℕ → (ℕ → ℕ → Taken) → Taken
-taking none q at u later = taken_none q
-taking (some c) q at u later = taking_first (queue_at q c).copies q c at u (later c)
+taking None q at u later = taken_none q
+taking (Some c) q at u later = taking_first (queue_at q c).copies q c at u (later c)
 
 -- at most n frames from bit `at` on
 unfoldable pub take_up_to : ℕ → Queues → ℕ → ℕ → ℕ → Taken

@@ -13,6 +13,7 @@ use Rattle.bits.specs.Bits.{bits_of, Bytes}
 use Rattle.bits.proofs.Bits.{Bytes-take}
 use Rattle.bits.proofs.Tests.{and_left, and_right}
 use Rattle.packet.specs.Circuits.{circuits_refusal, listed, listing}
+use Rattle.packet.proofs.AnswerNumbers.{is_ok-answer_of}
 use Rattle.packet.proofs.CircuitLists.{listing-count, listing-refusal}
 use Rattle.packet.proofs.Choices.{cond_either}
 use Rattle.framing.specs.declared.Framing.{Framing}
@@ -30,6 +31,9 @@ use Rattle.receiver.specs.declared.Receiver.{Receiver}
 use Rattle.receiver.specs.Record.{fresh, in_range}
 use Rattle.receiver.specs.Reading.{with_framing, Noticed, passed, noticed, read_by, read_scan, read_refusal, receiver_after_read}
 use Rattle.receiver.specs.Reads.{ReadCall, ReceiverEnd, fresh_receiver_end, after_read, after_reads}
+
+-- the code asks of circuits whether listing them is accepted
+pub ruleset listed_right = (is_ok-answer_of)
 
 -- a record in range, by its parts
 pub record Parts (r : Receiver) : Type 0 where

@@ -1,20 +1,24 @@
 -- Reading calls: the code's tests are those of the definition of the refusals, what is known where none of them holds, and what a refusal, a scan without
 -- a packet and a packet that is heard make of the call.
-use Prim.Native.Nat.{ℕ, ◌-◌, ◌*◌, ◌≤◌, ◌<◌}
+use Prim.Native.Nat.{ℕ, ◌-◌, ◌*◌, ◌≤◌}
 use mathlib.Core.Bool.{Bool, true, false, cond, not, ◌||◌}
 use mathlib.Core.List.{List, [], ◌∷◌}
 use mathlib.Core.Logic.{⊎_elim}
 use mathlib.Core.Path.{◌≡◌, refl, sym, ◌∙◌}
 use native.Mathlib.Omega.{arith}
+use Rattle.std.proofs.Common.{Result, Ok, Err}
 use lib.ListN.{length, take}
 use lib.Seq.{slice, length-take-le}
 use lib.Dec.{ltb, eqb}
 use types.Run.{OneOf}
 use denote.Enum.Declared.{tag_of}
 use borrow.Author.Rules.{rules}
-use borrow.Author.Tests.{lt-ltb, le-ltb, ltb-false, leb-true, ne_eqb, eqb-true, not-false}
+use borrow.Author.Tests.{ltb-false, leb-true, eqb-true, not-false}
 use Rattle.bits.specs.Bits.{bits_of}
 use Rattle.bits.proofs.Tests.{or_left, or_right}
+use Rattle.packet.specs.declared.Refusal.{Refusal}
+use Rattle.packet.specs.Answers.{refusal_of, answered, answer_of}
+use Rattle.packet.proofs.AnswerNumbers.{answer_number-answered, answer_of-Ok, answered-Err}
 use Rattle.framing.specs.declared.Check.{Check}
 use Rattle.framing.specs.declared.Check.TheVariants.{Packet, Spoilt, Nothing}
 use Rattle.framing.specs.declared.Scan.{Scan}
@@ -22,7 +26,6 @@ use Rattle.framing.specs.Range.{in_range as framing_in_range}
 use Rattle.framing.specs.Scanning.{scan}
 use Rattle.framing.specs.contracts.Check.{the_type}
 use Rattle.framing.proofs.Scanned.{Packed, scan-least, scan-packet}
-use Rattle.framing.proofs.ScanInRange.{Array21}
 use Rattle.notices.specs.declared.Notice.{Notice}
 use Rattle.notices.specs.declared.Hearing.{Hearing}
 use Rattle.notices.specs.Slots.{slots_in_range}
@@ -30,8 +33,6 @@ use Rattle.notices.specs.Stores.{store_length, store_after_notice, writable}
 use Rattle.notices.specs.Heard.{heard}
 use Rattle.notices.proofs.Hearings.{heard-writable}
 use Rattle.receiver.specs.declared.Receiver.{Receiver}
-use Rattle.receiver.specs.declared.Reading.{Reading}
-use Rattle.receiver.specs.declared.Read.TheVariants.{Told, Refused}
 use Rattle.receiver.specs.Record.{in_range}
 use Rattle.receiver.specs.Reading.{
   with_framing,
@@ -48,57 +49,53 @@ use Rattle.receiver.specs.Reading.{
   read_of,
   read_number,
   answer_to_read,
+  told_by_read,
   ReadCalled,
 }
-use Rattle.receiver.proofs.InRange.{in_range_parts, arrays, scanned_in_range}
+use Rattle.receiver.proofs.InRange.{in_range_parts, with_framing_left, passed-with_framing}
 
 -- an answer's number is the refusal's, and 0 for a notice
-pub read_number-read_of : (refusal : ℕ) (notice : Notice) → read_number (read_of refusal notice) ≡ refusal
+pub read_number-read_of : (refusal : ℕ) (notice : Notice) → refusal ≤ 17 → read_number (read_of refusal notice) ≡ refusal
 unfolding read_number read_of
-read_number-read_of refusal notice = go (eqb refusal 0) refl
-  where
-    go : (t : Bool) → eqb refusal 0 ≡ t → read_number (cond t (Told notice) (Refused refusal)) ≡ refusal
-    go true e = sym (eqb-true refusal 0 e)
-    go false e = refl
+read_number-read_of refusal notice most = answer_number-answered refusal notice most
 
--- the notice that an answer is of
-pub told_by : (n : ℕ) (notice told : Notice) → Told told ≡ read_of n notice → (n ≡ 0) × (told ≡ notice)
-unfolding read_of
-told_by n notice told = go (eqb n 0) refl
+-- what an accepted call answers
+pub told_by : {A : Type 0} (n : ℕ) (a b : A) → Ok b ≡ answered n a → (n ≡ 0) × (b ≡ a)
+unfolding answered
+told_by {A} n a b = go (eqb n 0) refl
   where
-    go : (t : Bool) → eqb n 0 ≡ t → Told told ≡ cond t (Told notice) (Refused n) → (n ≡ 0) × (told ≡ notice)
+    go : (t : Bool) → eqb n 0 ≡ t → ◌≡◌ {A = Result A Refusal} (Ok b) (cond t (Ok a) (Err (refusal_of n))) → (n ≡ 0) × (b ≡ a)
     go true e f = (eqb-true n 0 e, cc)
     go false e f = (cc, cc)
 
--- ---- each refusal, behind the tests that come before it
+-- a call whose answer accepts is given no number
+pub accepts : {n : ℕ} {a : Result (Unit {0}) Refusal} {u : Unit {0}} → a ≡ answer_of n → a ≡ Ok u → n ≡ 0
+accepts {n} {u = u} made is = answer_of-Ok n u (sym made ∙ is)
 
-module _ (r : Receiver) (store bytes : List ℕ) (from to : ℕ) where
-  -- the number that the call is given
-  abbrev Gives : ℕ → Type 0
-  Gives k = k ≡ read_refusal r store bytes from to
+-- the number of an answer that refuses
+pub some_refusal : (n : ℕ) (r : Refusal) → answer_of n ≡ Err r → eqb n 0 ≡ false
+unfolding answer_of answered
+some_refusal n r = go (eqb n 0)
+  where
+    go : (t : Bool) → ◌≡◌ {A = Result (Unit {0}) Refusal} (cond t (Ok tt) (Err (refusal_of n))) (Err r) → t ≡ false
+    go true h = cc
+    go false h = refl
 
-  pub gives_14 : in_range r ≡ false → Gives 14
-  unfolding read_refusal
-  gives_14 range = rw range
+-- so an answer has the number of its call's refusal
+pub read_refusal-most : (r : Receiver) (store bytes : List ℕ) (from to : ℕ) → read_refusal r store bytes from to ≤ 17
+unfolding read_refusal
+read_refusal-most r store bytes from to = go (not (in_range r)) (ltb (length store) store_length) (ltb to from || ltb (8 * length bytes) to)
+  where
+    go : (a b c : Bool) → cond a 14 (cond b 5 (cond c 15 0)) ≤ 17
+    go true b c = omega arith
+    go false true c = omega arith
+    go false false true = omega arith
+    go false false false = omega arith
 
-  module _ (range : in_range r ≡ true) where
-    pub gives_5 : length store < store_length → Gives 5
-    unfolding read_refusal
-    gives_5 h = rw (range, lt-ltb (length store) store_length)
-
-    module _ (long : store_length ≤ length store) where
-      pub gives_15_turned : to < from → Gives 15
-      unfolding read_refusal
-      gives_15_turned h = rw (range, le-ltb (length store) store_length, lt-ltb to from)
-
-      module _ (order : from ≤ to) where
-        pub gives_15_past : ltb (8 * length bytes) to ≡ true → Gives 15
-        unfolding read_refusal
-        gives_15_past e = rw (range, le-ltb (length store) store_length, le-ltb to from, e)
-
-        pub gives_0 : ltb (8 * length bytes) to ≡ false → Gives 0
-        unfolding read_refusal
-        gives_0 e = rw (range, le-ltb (length store) store_length, le-ltb to from, e)
+pub answer_to_read-number : (r : Receiver) (store bytes : List ℕ) (from to : ℕ)
+    → read_number (answer_to_read r store bytes from to) ≡ read_refusal r store bytes from to
+unfolding answer_to_read
+answer_to_read-number r store bytes from to = read_number-read_of (read_refusal r store bytes from to) _ (read_refusal-most r store bytes from to)
 
 -- ---- an accepted call
 
@@ -139,11 +136,11 @@ module _ (r : Receiver) (p : List ℕ) where
     before_writing e = rw e (heard-writable r.circuits r.slots before_hearing.1 before_hearing.0 p)
 
   -- what is heard of it, and what is written then
-  pub passed-made : (store : List ℕ) {h : Hearing} {new : List ℕ} {bits : ℕ} → h ≡ heard r.circuits r.slots p → new ≡ store_after_notice h.notice r.slots p store
-      → (record { circuits = r.circuits; slots = h.slots; framing = r.framing } ≡ (passed r store p).receiver)
-      × (Told h.notice ≡ Told (passed r store p).notice) × (bits ≡ bits) × (new ≡ (passed r store p).store)
+  pub passed-made : (store : List ℕ) {h : Hearing} {new : List ℕ} → h ≡ heard r.circuits r.slots p → new ≡ store_after_notice h.notice r.slots p store
+      → (h.notice ≡ (passed r store p).notice) × (record { circuits = r.circuits; slots = h.slots; framing = r.framing } ≡ (passed r store p).receiver)
+      × (new ≡ (passed r store p).store)
   unfolding passed
-  passed-made store e written = (rw e, rw e, refl, written ∙ rw e)
+  passed-made store e written = (rw e, rw e, written ∙ rw e)
 
 -- ---- what a call makes
 
@@ -163,12 +160,11 @@ noticed_quiet Nothing bytes r store t = refl
 
 module _ (r : Receiver) (store bytes : List ℕ) (from to : ℕ) where
   -- a refused call
-  pub ReadCalled_refused : (k : ℕ) → k ≡ read_refusal r store bytes from to → (k ≡ 0 → ⊥)
-      → ReadCalled r store bytes from to store (record { read = Refused k; receiver = r; bits = 0 })
-  unfolding receiver_after_read store_after_read bits_read answer_to_read read_of
-  ReadCalled_refused k e h =
-      let no : eqb (read_refusal r store bytes from to) 0 ≡ false = rw (← e) (ne_eqb k 0 h) in
-      record { receiver = rw no; read = rw (no, e); bits = rw no; store = rw no }
+  pub ReadCalled_refused : (k : Refusal) → answer_of (read_refusal r store bytes from to) ≡ Err k → ReadCalled r store bytes from to r store (Err k)
+  unfolding receiver_after_read store_after_read told_by_read
+  ReadCalled_refused k e =
+      let no = some_refusal (read_refusal r store bytes from to) k e in
+      record { receiver = rw no; told = sym (answered-Err (read_refusal r store bytes from to) _ k e); store = rw no }
 
   module _ (h : read_refusal r store bytes from to ≡ 0) where
     known : Accepted r store bytes from to
@@ -187,42 +183,34 @@ module _ (r : Receiver) (store bytes : List ℕ) (from to : ℕ) where
 
       -- what is heard of them makes the call
       called : (a : Noticed) → read_by s r store ≡ a
-          → ReadCalled r store bytes from to a.store (record { read = Told a.notice; receiver = a.receiver; bits = s.at - from })
-      unfolding receiver_after_read store_after_read bits_read answer_to_read read_of read_scan
-      called a d = record { receiver = rw (h, ← e, d); read = rw (h, ← e, d); bits = rw (h, ← e); store = rw (h, ← e, d) }
+          → ReadCalled r store bytes from to a.receiver a.store (Ok (record { notice = a.notice; bits = s.at - from }))
+      unfolding receiver_after_read store_after_read bits_read told_by_read answered read_scan
+      called a d = record { receiver = rw (h, ← e, d); told = rw (h, ← e, d); store = rw (h, ← e, d) }
 
-      -- the record has the framing that they leave
-      module _ {q : Receiver} (f : q ≡ with_framing r s.framing) where
-        -- no packet passed
-        pub ReadCalled_quiet : OneOf (1 ∷ 2 ∷ []) (tag_of the_type s.check) → {n : Notice} → n ≡ quiet_notice s.check
-            → ReadCalled r store bytes from to store (record { read = Told n; receiver = q; bits = s.at - from })
-        unfolding read_by
-        ReadCalled_quiet t d =
-            rw (d, f)
-            (called (record { receiver = with_framing r s.framing; store = store; notice = quiet_notice s.check })
-            (noticed_quiet s.check s.bytes (with_framing r s.framing) store t))
+      -- no packet passed
+      pub ReadCalled_quiet : OneOf (1 ∷ 2 ∷ []) (tag_of the_type s.check) → {n : Notice} → n ≡ quiet_notice s.check
+          → ReadCalled r store bytes from to (with_framing r s.framing) store (Ok (record { notice = n; bits = s.at - from }))
+      unfolding read_by
+      ReadCalled_quiet t d =
+          rw d
+          (called (record { receiver = with_framing r s.framing; store = store; notice = quiet_notice s.check })
+          (noticed_quiet s.check s.bytes (with_framing r s.framing) store t))
 
-        -- a packet passed
-        module _ {n : ℕ} (p : s.check ≡ Packet n) where
-          pub ReadCalled-packet : {new : List ℕ} {a : Reading}
-              → (a.receiver ≡ (passed q store (take n s.bytes)).receiver) × (a.read ≡ Told (passed q store (take n s.bytes)).notice)
-              × (a.bits ≡ s.at - from) × (new ≡ (passed q store (take n s.bytes)).store)
-              → ReadCalled r store bytes from to new a
-          unfolding read_by noticed
-          ReadCalled-packet (receiver, read, bits, after) =
-              let is = called (passed q store (take n s.bytes)) (rw (p, f)) in
-              record { receiver = receiver ∙ is.receiver; read = read ∙ is.read; bits = bits ∙ is.bits; store = after ∙ is.store }
+      -- a packet passed
+      module _ {n : ℕ} (p : s.check ≡ Packet n) where
+        pub packed : Packed n
+        packed = scan-packet (slice from to (bits_of bytes)) r.framing from n (rw e at p)
 
-          packed : Packed n
-          packed = scan-packet (slice from to (bits_of bytes)) r.framing from n (rw e at p)
+        pub packet_lengths : n ≤ length s.bytes → (2 ≤ length (take n s.bytes)) × (length (take n s.bytes) ≤ 19)
+        packet_lengths h =
+            let l : length (take n s.bytes) ≡ n = length-take-le n s.bytes h in
+            (omega (arith, packed), omega (arith, packed))
 
-          module _ (array : Array21 r.framing.bits) where
-            pub packet-fits : n ≤ length s.bytes
-            unfolding read_scan
-            packet-fits = rw e (omega (arith, packed, (arrays r store bytes from to array).told.long))
-
-            pub before_packet : (in_range q ≡ true) × (store_length ≤ length store) × (2 ≤ length (take n s.bytes)) × (length (take n s.bytes) ≤ 19)
-            unfolding read_scan
-            before_packet =
-                let l : length (take n s.bytes) ≡ n = length-take-le n s.bytes packet-fits in
-                (rw (f, e) (scanned_in_range r store bytes from to array known.range), known.long, omega (arith, packed), omega (arith, packed))
+        pub ReadCalled-packet : {left : Receiver} {new : List ℕ} {notice : Notice}
+            → (notice ≡ (passed r store (take n s.bytes)).notice) × (left ≡ (passed r store (take n s.bytes)).receiver)
+            × (new ≡ (passed r store (take n s.bytes)).store)
+            → ReadCalled r store bytes from to (with_framing left s.framing) new (Ok (record { notice = notice; bits = s.at - from }))
+        unfolding read_by noticed with_framing_left
+        ReadCalled-packet (told, receiver, after) =
+            rw (told, receiver, after)
+            (called (with_framing_left (passed r store (take n s.bytes)) s.framing) (rw p (passed-with_framing r s.framing store (take n s.bytes))))

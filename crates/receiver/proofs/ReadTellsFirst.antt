@@ -5,6 +5,7 @@ use native.Mathlib.Omega.{arith}
 use mathlib.Core.Bool.{Bool, true, cond, true≢false}
 use mathlib.Core.List.{List, [], ◌∷◌, ◌++◌, append-nil}
 use mathlib.Core.Path.{◌≡◌, sym, ap, ◌∙◌}
+use Rattle.std.proofs.Common.{Ok}
 use lib.ListN.{length, take, drop}
 use lib.Seq.{slice, length-slice}
 use Rattle.bits.specs.Bits.{bits_of}
@@ -22,9 +23,8 @@ use Rattle.framing.specs.Scanning.{scan}
 use Rattle.framing.proofs.Scanned.{scan-least, scan-most}
 use Rattle.notices.specs.declared.Notice.{Notice}
 use Rattle.receiver.specs.declared.Receiver.{Receiver}
-use Rattle.receiver.specs.declared.Read.TheVariants.{Told}
 use Rattle.receiver.specs.Record.{fresh}
-use Rattle.receiver.specs.Reading.{with_framing, noticed, read_by, read_scan, read_refusal, store_after_read, bits_read, answer_to_read}
+use Rattle.receiver.specs.Reading.{with_framing, noticed, read_by, read_scan, read_refusal, store_after_read, bits_read, read_of, answer_to_read}
 use Rattle.receiver.specs.Reads.{ReadCall, ReceiverEnd, fresh_receiver_end, after_reads, bits_of_read, bits_of_reads, Report, report_of, told, told_by_reads, told_by_judged, is_end, not_end}
 use Rattle.receiver.specs.TellsFirst.{told_up_to, TellsFirst}
 use Rattle.receiver.proofs.ReadLaws.{told_by, before_scan}
@@ -69,7 +69,7 @@ module _ (list store : List ℕ) (reads : List ReadCall) (c : ReadCall) where
   unfolding closings told_by_judged
   told_up_to-none = told_up_to_is 0 ∙ append-nil before
 
-  module _ (n : Notice) (answer : answer_to_read e.receiver e.store c.bytes c.from c.to ≡ Told n) where
+  module _ (n : Notice) (answer : answer_to_read e.receiver e.store c.bytes c.from c.to ≡ Ok n) where
     abbrev k : ℕ
     k = bits_read e.receiver e.store c.bytes c.from c.to
 
@@ -82,7 +82,7 @@ module _ (list store : List ℕ) (reads : List ReadCall) (c : ReadCall) where
     -- the call is accepted, and the notice is that of its scan
     told_is : (read_refusal e.receiver e.store c.bytes c.from c.to ≡ 0)
         × (n ≡ (read_by (read_scan e.receiver c.bytes c.from c.to) e.receiver e.store).notice)
-    unfolding answer_to_read
+    unfolding answer_to_read read_of
     told_is = told_by _ _ n (sym answer)
 
     k_is : k ≡ s.at - c.from
@@ -138,7 +138,7 @@ module _ (list store : List ℕ) (reads : List ReadCall) (c : ReadCall) where
 
 pub read_tells_first : (list store : List ℕ) (reads : List ReadCall) (c : ReadCall) (n : Notice)
     → (let e = after_reads (fresh_receiver_end list store) reads in
-    answer_to_read e.receiver e.store c.bytes c.from c.to ≡ Told n
+    answer_to_read e.receiver e.store c.bytes c.from c.to ≡ Ok n
     → TellsFirst list store reads c n (store_after_read e.receiver e.store c.bytes c.from c.to)
     (bits_read e.receiver e.store c.bytes c.from c.to))
 read_tells_first list store reads c n = tells_first list store reads c n

@@ -3,7 +3,7 @@
 use Prim.Native.Nat.{ℕ, ◌-◌}
 use mathlib.Core.Bool.{Bool, true, false, cond}
 use mathlib.Core.List.{List, [], ◌∷◌, ◌++◌, map, append_assoc, append-nil}
-use mathlib.Core.Option.{Option, none, some}
+use Rattle.std.proofs.Common.{Option, None, Some, Ok, Err}
 use mathlib.Core.Path.{◌≡◌, refl, sym, ap, ◌∙◌}
 use lib.ListN.{take, drop}
 use lib.Seq.{slice}
@@ -30,7 +30,7 @@ use Rattle.framing.proofs.Runs.{run_append}
 use Rattle.framing.proofs.ScanFindsFirst.{scan_leaves}
 use Rattle.receiver.specs.declared.Receiver.{Receiver}
 use Rattle.receiver.specs.Record.{fresh}
-use Rattle.receiver.specs.declared.Read.TheVariants.{Told, Refused}
+use Rattle.packet.specs.Answers.{refusal_of, answered}
 use Rattle.receiver.specs.Reading.{with_framing, Noticed, passed, noticed, read_by, read_scan, read_refusal, receiver_after_read, store_after_read, bits_read, read_of, answer_to_read}
 use Rattle.receiver.specs.Reads.{ReadCall, ReceiverEnd, fresh_receiver_end, after_read, after_reads, bits_of_read, bits_of_reads, Report, report_of, told, told_by_reads, told_by_judged, told_by_bodies, is_end, not_end}
 use Rattle.receiver.proofs.InRange.{with_framing_left, passed-with_framing, noticed-framing}
@@ -69,8 +69,8 @@ told_by_judged-with_framing (nothing ∷ js) r f store = told_by_judged-with_fra
 -- and is not End
 heard_by_tells : (n : Option ℕ) (slots : List Slot) (p : List ℕ) → is_end (heard_by n slots p).notice ≡ false
 unfolding heard_by heard_at is_end
-heard_by_tells none slots p = refl
-heard_by_tells (some c) slots p = refl
+heard_by_tells None slots p = refl
+heard_by_tells (Some c) slots p = refl
 
 pub passed_tells : (r : Receiver) (store p : List ℕ) → is_end (passed r store p).notice ≡ false
 unfolding passed heard system_heard is_end
@@ -129,12 +129,12 @@ module _ (e : ReceiverEnd) (c : ReadCall) where
   pub read_tells : (js : List Judged)
       → told_by_judged r e.store (gives (closings r.framing 0 (bits_of_read e c)) ++ js)
       ≡ not_end (told e c) ++ told_by_judged (after_read e c).receiver (after_read e c).store js
-  unfolding told report_of answer_to_read read_of after_read receiver_after_read store_after_read bits_of_read bits_read read_scan read_by closings not_end
+  unfolding told report_of answer_to_read read_of answered after_read receiver_after_read store_after_read bits_of_read bits_read read_scan read_by closings not_end
   read_tells js = go (eqb (read_refusal e.receiver e.store c.bytes c.from c.to) 0)
     where
       go : (t : Bool)
           → told_by_judged r e.store (gives (closings r.framing 0 (take (cond t (s.at - c.from) 0) (drop c.from (bits_of c.bytes)))) ++ js)
-          ≡ not_end (report_of (cond t (Told h.notice) (Refused (read_refusal r e.store c.bytes c.from c.to))) (cond t h.store e.store))
+          ≡ not_end (report_of (cond t (Ok h.notice) (Err (refusal_of (read_refusal r e.store c.bytes c.from c.to)))) (cond t h.store e.store))
           ++ told_by_judged (cond t h.receiver r) (cond t h.store e.store) js
       go false = refl
       go true =

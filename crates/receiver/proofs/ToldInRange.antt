@@ -4,11 +4,14 @@ use Prim.Native.Nat.{ℕ, ◌≤◌}
 use mathlib.Core.Bool.{true}
 use mathlib.Core.List.{List, [], ◌∷◌}
 use mathlib.Core.Path.{◌≡◌}
+use Rattle.std.proofs.Common.{Result}
 use borrow.Author.Tests.{eqb-true, leb-true}
 use lib.ListN.{length, take}
 use lib.Dec.{eqb}
 use Rattle.bits.specs.Bits.{Bytes}
 use Rattle.bits.proofs.Bits.{Bytes-take}
+use Rattle.packet.specs.declared.Refusal.{Refusal}
+use Rattle.packet.specs.Answers.{answered}
 use Rattle.packet.specs.Lists.{AllAre}
 use Rattle.packet.proofs.Lists.{AllAre_append}
 use Rattle.packet.proofs.Choices.{cond_either}
@@ -16,10 +19,10 @@ use Rattle.framing.specs.declared.Check.{Check}
 use Rattle.framing.specs.declared.Check.TheVariants.{Packet, Spoilt, Nothing}
 use Rattle.framing.specs.declared.Scan.{Scan}
 use Rattle.framing.proofs.ScanInRange.{Array21, Array21-fresh}
+use Rattle.notices.specs.declared.Notice.{Notice}
 use Rattle.notices.specs.Stores.{store_length}
 use Rattle.notices.proofs.NoticesInRange.{NoticeInRange, heard_notice_in_range}
 use Rattle.receiver.specs.declared.Receiver.{Receiver}
-use Rattle.receiver.specs.declared.Read.{Read}
 use Rattle.receiver.specs.Record.{fresh, in_range}
 use Rattle.receiver.specs.Reading.{with_framing, passed, noticed, read_by, read_scan, read_refusal, store_after_read, read_of, answer_to_read}
 use Rattle.receiver.specs.Reads.{ReadCall, ReceiverEnd, fresh_receiver_end, after_read, Report, report_of, told, told_by_reads}
@@ -45,13 +48,13 @@ noticed_notice_in_range Nothing bytes r store b e = tt
 -- ---- a reading call
 
 told_by_call : (e : ReceiverEnd) (c : ReadCall) → Array21 e.receiver.framing.bits → in_range e.receiver ≡ true → AllAre ReportInRange (told e c)
-unfolding told answer_to_read read_of report_of read_by AllAre
+unfolding told answer_to_read read_of answered report_of read_by AllAre
 told_by_call e c h k =
     let r : Receiver = e.receiver in
     let s : Scan = read_scan r c.bytes c.from c.to in
     let n : ℕ = read_refusal r e.store c.bytes c.from c.to in
     let after : List ℕ = store_after_read r e.store c.bytes c.from c.to in
-    cond_either (λ (a : Read). AllAre ReportInRange (report_of a after)) (eqb n 0) _ _
+    cond_either (λ (a : Result Notice Refusal). AllAre ReportInRange (report_of a after)) (eqb n 0) _ _
     (λ zero. (
       record {
         notice =

@@ -1,8 +1,10 @@
 -- Reading (document 01, "Notices" and "Calls and their refusals"): "A read goes bit by bit and stops after the first notice, or at the end with End. It
 -- returns record, notice and bits read."
-use Rattle.std.specs.Prelude.{ℕ, ◌-◌, ◌*◌, cond, not, ◌||◌, List, ◌≡◌, length, take, ltb, eqb}
+use Rattle.std.specs.Prelude.{ℕ, ◌-◌, ◌*◌, cond, not, ◌||◌, List, Result, ◌≡◌, length, take, ltb, eqb}
 use Rattle.std.proofs.Math.Seq.{slice}
 use Rattle.bits.specs.Bits.{bits_of}
+use Rattle.packet.specs.declared.Refusal.{Refusal}
+use Rattle.packet.specs.Answers.{answered, answer_number}
 use Rattle.framing.specs.declared.Framing.{Framing}
 use Rattle.framing.specs.declared.Check.{Check}
 use Rattle.framing.specs.declared.Check.TheVariants.{Packet, Nothing}
@@ -15,9 +17,7 @@ use Rattle.notices.specs.declared.Hearing.{Hearing}
 use Rattle.notices.specs.Stores.{store_length, store_after_notice}
 use Rattle.notices.specs.Heard.{heard}
 use Rattle.receiver.specs.declared.Receiver.{Receiver}
-use Rattle.receiver.specs.declared.Read.{Read}
-use Rattle.receiver.specs.declared.Read.TheVariants.{Told, Refused}
-use Rattle.receiver.specs.declared.Reading.{Reading}
+use Rattle.receiver.specs.declared.Told.{Told}
 use Rattle.receiver.specs.Record.{in_range}
 
 -- the record with another framing
@@ -79,21 +79,25 @@ store_after_read r store bytes from to =
 unfoldable pub bits_read : Receiver → List ℕ → List ℕ → ℕ → ℕ → ℕ
 bits_read r store bytes from to = cond (eqb (read_refusal r store bytes from to) 0) ((read_scan r bytes from to).at - from) 0
 
--- the answer to a reading call: the notice, or the refusal's number
-unfoldable pub read_of : ℕ → Notice → Read
-read_of refusal notice = cond (eqb refusal 0) (Told notice) (Refused refusal)
+-- the answer to a reading call: the notice, or the refusal with a number
+unfoldable pub read_of : ℕ → Notice → Result Notice Refusal
+read_of refusal notice = answered refusal notice
 
 -- the number of an answer in document 01: 0 stands for a notice
-unfoldable pub read_number : Read → ℕ
-read_number (Told notice) = 0
-read_number (Refused n) = n
+unfoldable pub read_number : Result Notice Refusal → ℕ
+read_number a = answer_number a
 
-unfoldable pub answer_to_read : Receiver → List ℕ → List ℕ → ℕ → ℕ → Read
+unfoldable pub answer_to_read : Receiver → List ℕ → List ℕ → ℕ → ℕ → Result Notice Refusal
 answer_to_read r store bytes from to = read_of (read_refusal r store bytes from to) (read_by (read_scan r bytes from to) r store).notice
 
+-- the answer with the bits read beside the notice
+unfoldable pub told_by_read : Receiver → List ℕ → List ℕ → ℕ → ℕ → Result Told Refusal
+told_by_read r store bytes from to =
+    answered (read_refusal r store bytes from to)
+    (record { notice = (read_by (read_scan r bytes from to) r store).notice; bits = bits_read r store bytes from to })
+
 -- what a reading call returns and leaves
-pub record ReadCalled (r : Receiver) (old bytes : List ℕ) (from to : ℕ) (new : List ℕ) (a : Reading) : Type 0 where
-  pub receiver : a.receiver ≡ receiver_after_read r old bytes from to
-  pub read : a.read ≡ answer_to_read r old bytes from to
-  pub bits : a.bits ≡ bits_read r old bytes from to
+pub record ReadCalled (r : Receiver) (old bytes : List ℕ) (from to : ℕ) (left : Receiver) (new : List ℕ) (a : Result Told Refusal) : Type 0 where
+  pub receiver : left ≡ receiver_after_read r old bytes from to
+  pub told : a ≡ told_by_read r old bytes from to
   pub store : new ≡ store_after_read r old bytes from to

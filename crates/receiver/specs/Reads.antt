@@ -1,14 +1,13 @@
 -- Lists of reading calls, on the record and store as the calls' contracts say: "Records and stores go from call to call" (document 01, "What demand 3
 -- counts"), and what they take and tell; and what the bodies in the bits that they take tell.
-use Rattle.std.specs.Prelude.{ℕ, Bool, true, false, cond, List, [], ◌∷◌, ◌++◌, map, take, drop}
+use Rattle.std.specs.Prelude.{ℕ, Bool, true, false, cond, List, [], ◌∷◌, ◌++◌, Result, Ok, Err, map, take, drop}
 use Rattle.bits.specs.Bits.{bits_of}
 use Rattle.hdlc.specs.Bodies.{Body, Judged, passes, spoilt, nothing, judge}
+use Rattle.packet.specs.declared.Refusal.{Refusal}
 use Rattle.packet.specs.Circuits.{listing}
 use Rattle.notices.specs.declared.Notice.{Notice}
 use Rattle.notices.specs.declared.Notice.TheVariants.{End, Spoilt, Malformed, System, Elsewhere, Circuit}
 use Rattle.receiver.specs.declared.Receiver.{Receiver}
-use Rattle.receiver.specs.declared.Read.{Read}
-use Rattle.receiver.specs.declared.Read.TheVariants.{Told, Refused}
 use Rattle.receiver.specs.Record.{fresh}
 use Rattle.receiver.specs.Reading.{Noticed, passed, receiver_after_read, store_after_read, bits_read, answer_to_read}
 
@@ -54,9 +53,9 @@ pub record Report : Type 0 where
   pub store : List ℕ
 
 -- what an answer tells, with the store then; a refusal tells nothing
-unfoldable pub report_of : Read → List ℕ → List Report
-report_of (Told notice) store = record { notice = notice; store = store } ∷ []
-report_of (Refused n) store = []
+unfoldable pub report_of : Result Notice Refusal → List ℕ → List Report
+report_of (Ok notice) store = record { notice = notice; store = store } ∷ []
+report_of (Err r) store = []
 
 -- what a call tells
 unfoldable pub told : ReceiverEnd → ReadCall → List Report

@@ -6,7 +6,7 @@ pub mod listing;
 
 use framing::Framing;
 use notices::{Notice, Slot};
-use packet::{Answer, Circuits};
+use packet::Circuits;
 
 // A receiver's record.
 #[derive(Clone, Copy)]
@@ -16,24 +16,9 @@ pub struct Receiver {
     pub framing: Framing,
 }
 
-// What listing a receiver answers.
+// What an accepted reading call tells: a notice, and how many bits it read.
 #[derive(Clone, Copy)]
-pub struct Listed {
-    pub answer: Answer,
-    pub receiver: Receiver,
-}
-
-// What a reading call answers: a notice, or document 01's number of the refusal.
-#[derive(Clone, Copy)]
-pub enum Read {
-    Told(Notice),
-    Refused(u8),
-}
-
-// What a reading call returns: its answer, the record, and how many bits it read.
-#[derive(Clone, Copy)]
-pub struct Reading {
-    pub read: Read,
-    pub receiver: Receiver,
+pub struct Told {
+    pub notice: Notice,
     pub bits: usize,
 }

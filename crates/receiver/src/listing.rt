@@ -4,10 +4,10 @@ ghost use Rattle.packet.specs.Answers.{answer_of};
 ghost use Rattle.packet.specs.Circuits.{list_refusal, listing};
 ghost use Rattle.receiver.specs.Record.{fresh, in_range};
 
-use super::{Listed, Receiver};
+use super::Receiver;
 use framing::Framing;
 use notices::{Slot, slots, stores};
-use packet::Circuits;
+use packet::{Circuits, Listed};
 
 impl Receiver {
     // A circuit's region, where system information begins, and the store of four regions and that information, in bytes.
@@ -18,6 +18,7 @@ impl Receiver {
     pub const STORE: usize = stores::STORE;
 
     // The record of a receiver that has read nothing.
+    #[tactic(auto, unfolding(crate::specs::Record::fresh, notices::specs::Slots::fresh_slot))]
     pub fn fresh(circuits: Circuits) -> Receiver
         ensures { result ≡ fresh circuits }
     {
@@ -27,42 +28,28 @@ impl Receiver {
             length: 0,
             place: 0,
         };
-        let framing = Framing::fresh();
         Receiver {
             circuits,
             slots: [slot; 4],
-            framing,
+            framing: Framing::fresh(),
         }
     }
 
     // A receiver for the circuits of a list.
-    pub fn list(bytes: &[u8]) -> Listed
-        ensures { (result.answer ≡ answer_of (list_refusal bytes.now)) × (result.receiver ≡ fresh (listing bytes.now)) }
+    pub fn list(bytes: &[u8]) -> Listed<Receiver>
+        ensures { (result.answer ≡ answer_of (list_refusal bytes.now)) × (result.record ≡ fresh (listing bytes.now)) }
     {
-        let listing = Circuits::list(bytes);
-        let circuits = listing.circuits;
-        Listed {
-            answer: packet::answer_of(listing.refusal),
-            receiver: Receiver::fresh(circuits),
-        }
+        Listed::of(bytes, Receiver::fresh)
     }
 
     // The record is in range.
+    #[tactic(auto, using(crate::proofs::InRange::listed_right), unfolding(crate::specs::Record::in_range))]
     pub fn in_range(self) -> bool
         ensures { result ≡ in_range self }
     {
-        let circuits = self.circuits;
-        if 4 < circuits.count {
-            return false;
-        }
-        if circuits.refusal() != 0 {
-            return false;
-        }
-        let all = self.slots;
-        if !slots::slots_in_range(all, circuits.count as usize) {
-            return false;
-        }
-        let framing = self.framing;
-        framing.in_range()
+        self.circuits.count <= 4
+            && self.circuits.check().is_ok()
+            && slots::slots_in_range(self.slots, self.circuits.count as usize)
+            && self.framing.in_range()
     }
 }

@@ -32,7 +32,7 @@ slot_there bytes (suc (suc zero)) h = refl
 slot_there bytes (suc (suc (suc zero))) h = refl
 slot_there bytes (suc (suc (suc (suc c)))) h = absurd (omega arith)
 
-length-receiver_bytes : (r : Receiver) → length r.framing.bits ≡ 21 → length (receiver_bytes r) ≡ 61
+pub length-receiver_bytes : (r : Receiver) → length r.framing.bits ≡ 21 → length (receiver_bytes r) ≡ 61
 unfolding receiver_bytes circuits_bytes circuit_bytes slots_bytes slot_bytes framing_bytes low_bytes
 length-receiver_bytes r e = rw e
 

@@ -4,14 +4,20 @@ use Prim.Native.Nat.{ℕ, ◌-◌, ◌≤◌}
 use mathlib.Core.Bool.{true}
 use mathlib.Core.List.{List, [], ◌∷◌}
 use mathlib.Core.Path.{◌≡◌, refl, sym, ap, ◌∙◌}
+use native.Mathlib.Omega.{arith}
 use lib.ListN.{length, take}
 use lib.Seq.{slice, sets}
 use types.Run.{OneOf}
 use denote.Enum.Declared.{tag_of}
-use borrow.Author.Tests.{ne_eqb}
+use Rattle.std.proofs.Common.{Result, Ok, Err}
 use Rattle.bits.specs.Bits.{Bytes, bits_of}
+use Rattle.packet.specs.declared.Refusal.{Refusal}
+use Rattle.packet.specs.Answers.{answer_of}
+use Rattle.packet.proofs.AnswerNumbers.{answer_of-Ok}
+use Rattle.framing.specs.declared.Framing.{Framing}
 use Rattle.framing.specs.declared.Scan.{Scan}
 use Rattle.framing.specs.declared.Check.TheVariants.{Packet}
+use Rattle.framing.specs.Range.{in_range as framing_in_range}
 use Rattle.framing.specs.Scanning.{scan}
 use Rattle.framing.specs.contracts.Check.{the_type}
 use Rattle.framing.proofs.ScanInRange.{Array21}
@@ -19,12 +25,12 @@ use Rattle.notices.specs.declared.Notice.{Notice}
 use Rattle.notices.specs.declared.Hearing.{Hearing}
 use Rattle.notices.specs.Stores.{store_after_notice}
 use Rattle.notices.specs.Heard.{heard}
-use Rattle.receiver.specs.declared.Read.TheVariants.{Told}
-use Rattle.receiver.specs.declared.Reading.{Reading}
-use Rattle.receiver.specs.Reading.{with_framing, passed, quiet_notice, read_scan, read_refusal, store_after_read, answer_to_read, ReadCalled}
+use Rattle.receiver.specs.declared.Receiver.{Receiver}
+use Rattle.receiver.specs.declared.Told.{Told}
+use Rattle.receiver.specs.Reading.{passed, quiet_notice, read_scan, read_refusal, store_after_read, told_by_read, ReadCalled}
 use Rattle.receiver.proofs.InRange.{arrays}
-use Rattle.receiver.proofs.ReadLaws.{told_by, ReadCalled_quiet, ReadCalled-packet}
-use Rattle.framing_layout.specs.FramingBytes.{framing_bytes}
+use Rattle.receiver.proofs.ReadLaws.{told_by, some_refusal, framing_in_range_lem, from_least, packed, packet_lengths, ReadCalled_quiet, ReadCalled-packet}
+use Rattle.framing_layout.specs.FramingBytes.{framing_bytes, framing_in}
 use Rattle.receiver_layout.specs.ReceiverBytes.{receiver_length, receiver_bytes, receiver_in, is_receiver}
 use Rattle.receiver_layout.specs.Answers.{read_answer_bytes}
 use Rattle.receiver_calls.specs.Reading.{record_after_read, answer_after_read}
@@ -49,54 +55,75 @@ module _ (bytes store p : List ℕ) where
 -- ---- what a call answers, and the bytes of the record, the store and the answer then
 
 module _ (bytes store bits : List ℕ) (from to : ℕ) (answer : List ℕ) where
-  abbrev CallRead : ℕ → List ℕ → List ℕ → List ℕ → Type 0
-  CallRead number new new_store new_answer =
-      (number ≡ read_refusal (receiver_in bytes) store bits from to) × (new ≡ record_after_read bytes store bits from to)
+  abbrev CallRead : Result (Unit {0}) Refusal → List ℕ → List ℕ → List ℕ → Type 0
+  CallRead a new new_store new_answer =
+      (a ≡ answer_of (read_refusal (receiver_in bytes) store bits from to)) × (new ≡ record_after_read bytes store bits from to)
       × (new_store ≡ store_after_read (receiver_in bytes) store bits from to) × (new_answer ≡ answer_after_read bytes store bits from to answer)
 
-  pub call_refused : {k : ℕ} → k ≡ read_refusal (receiver_in bytes) store bits from to → (k ≡ 0 → ⊥) → CallRead k bytes store answer
+  pub call_refused : {k : Refusal} → answer_of (read_refusal (receiver_in bytes) store bits from to) ≡ Err k → CallRead (Err k) bytes store answer
   unfolding record_after_read store_after_read answer_after_read
-  call_refused {k} e some = rw (← e, ne_eqb k 0 some) (refl, refl, refl, refl)
+  call_refused {k} e = let no = some_refusal (read_refusal (receiver_in bytes) store bits from to) k e in (sym e, rw no, rw no, rw no)
 
-  module _ (none : read_refusal (receiver_in bytes) store bits from to ≡ 0) where
-    told : {new_store : List ℕ} {a : Reading} → ReadCalled (receiver_in bytes) store bits from to new_store a → {n : Notice} → a.read ≡ Told n
-        → {new new_answer : List ℕ} → new ≡ sets bytes 0 (receiver_bytes a.receiver) → new_answer ≡ sets answer 0 (read_answer_bytes n a.bits)
-        → CallRead 0 new new_store new_answer
-    unfolding record_after_read answer_after_read answer_to_read
-    told c {n} e written answered =
-        let (zero, notice) = told_by _ _ n (sym e ∙ c.read) in
-        rw none (refl, written ∙ rw c.receiver, c.store, answered ∙ rw (notice, c.bits))
+  -- an accepted call, on bytes that are a record's, of which the bits are scanned
+  module _ {u : Unit {0}} (ok : answer_of (read_refusal (receiver_in bytes) store bits from to) ≡ Ok u) where
+    none : read_refusal (receiver_in bytes) store bits from to ≡ 0
+    none = answer_of-Ok (read_refusal (receiver_in bytes) store bits from to) u ok
 
-    -- the record's bytes are a record's, and the bits are scanned
-    module _ (long : receiver_length ≤ length bytes) (are : Bytes bytes) (is : is_receiver bytes ≡ true)
-        {s : Scan} (e : s ≡ scan (receiver_in bytes).framing from (slice from to (bits_of bits))) where
-      pub array : Array21 (receiver_in bytes).framing.bits
+    told : {left : Receiver} {new_store : List ℕ} {a : Told} → ReadCalled (receiver_in bytes) store bits from to left new_store (Ok a)
+        → {new new_answer : List ℕ} → new ≡ sets bytes 0 (receiver_bytes left) → new_answer ≡ sets answer 0 (read_answer_bytes a.notice a.bits)
+        → CallRead (Ok u) new new_store new_answer
+    unfolding record_after_read answer_after_read told_by_read
+    told {a = a} c written answered =
+        let (zero, is) = told_by (read_refusal (receiver_in bytes) store bits from to) _ a c.told in
+        (sym ok, written ∙ rw (none, c.receiver), c.store, answered ∙ rw (none, is))
+
+    module _ (long : receiver_length ≤ length bytes) (are : Bytes bytes) where
+      array : Array21 (receiver_in bytes).framing.bits
       array = let f = (receiver-fits bytes are long).framing in record { long = f.twenty_one; each = f.bits }
 
-      left : length s.framing.bits ≡ 21
-      unfolding read_scan
-      left = rw e (arrays (receiver_in bytes) store bits from to array).left.long
+      module _ {f : Framing} (g : f ≡ framing_in bytes 37) where
+        pub framing_left : framing_in_range f ≡ true
+        unfolding receiver_in
+        framing_left = rw g (framing_in_range_lem (receiver_in bytes) store bits from to none)
 
-      -- no packet passed
-      pub call_quiet : OneOf (1 ∷ 2 ∷ []) (tag_of the_type s.check) → {n : Notice} → n ≡ quiet_notice s.check → {new new_answer : List ℕ}
-          → new ≡ sets bytes 37 (framing_bytes s.framing) → new_answer ≡ sets answer 0 (read_answer_bytes n (s.at - from))
-          → CallRead 0 new store new_answer
-      call_quiet t q written answered =
-          told (ReadCalled_quiet (receiver_in bytes) store bits from to none e refl t q) refl
-          (written ∙ ap (λ b. sets b 37 (framing_bytes s.framing)) (sym (same_in_place bytes long are is))
-          ∙ framing_in_place bytes long (receiver_in bytes) array.long s.framing left)
-          answered
+        module _ {s : Scan} (scanned : s ≡ scan f from (slice from to (bits_of bits))) where
+          e : s ≡ scan (receiver_in bytes).framing from (slice from to (bits_of bits))
+          unfolding receiver_in
+          e = scanned ∙ rw g
 
-      -- a packet passed, and is heard
-      pub call_packet : {n : ℕ} → s.check ≡ Packet n → {notice : Notice} {heard new_store : List ℕ}
-          → Passed bytes store (take n s.bytes) notice heard new_store → {new new_answer : List ℕ}
-          → new ≡ sets heard 37 (framing_bytes s.framing) → new_answer ≡ sets answer 0 (read_answer_bytes notice (s.at - from))
-          → CallRead 0 new new_store new_answer
-      unfolding passed with_framing
-      call_packet {n} p {notice} h written answered =
-          let after = (passed (receiver_in bytes) store (take n s.bytes)).receiver in
-          told
-          (ReadCalled-packet (receiver_in bytes) store bits from to none e refl p
-          {a = record { read = Told notice; receiver = with_framing after s.framing; bits = s.at - from }} (refl, ap Told h.0, refl, h.2)) refl
-          (written ∙ ap (λ b. sets b 37 (framing_bytes s.framing)) h.1 ∙ framing_in_place bytes long after array.long s.framing left)
-          answered
+          pub from_first : from ≤ s.at
+          from_first = from_least (receiver_in bytes) store bits from to none e
+
+          left : length s.framing.bits ≡ 21
+          unfolding read_scan
+          left = rw e (arrays (receiver_in bytes) store bits from to array).left.long
+
+          module _ (is : is_receiver bytes ≡ true) where
+            -- no packet passed
+            pub call_quiet : OneOf (1 ∷ 2 ∷ []) (tag_of the_type s.check) → {n : Notice} → n ≡ quiet_notice s.check → {new new_answer : List ℕ}
+                → new ≡ sets bytes 37 (framing_bytes s.framing) → new_answer ≡ sets answer 0 (read_answer_bytes n (s.at - from))
+                → CallRead (Ok u) new store new_answer
+            call_quiet t q written answered =
+                told (ReadCalled_quiet (receiver_in bytes) store bits from to none e t q)
+                (written ∙ ap (λ b. sets b 37 (framing_bytes s.framing)) (sym (same_in_place bytes long are is))
+                ∙ framing_in_place bytes long (receiver_in bytes) array.long s.framing left)
+                answered
+
+          -- a packet passed, and is heard
+          module _ {n : ℕ} (p : s.check ≡ Packet n) where
+            pub packet_within : n ≤ 19
+            packet_within = omega (arith, packed (receiver_in bytes) store bits from to none e p)
+
+            pub lengths : n ≤ length s.bytes → (2 ≤ length (take n s.bytes)) × (length (take n s.bytes) ≤ 19)
+            lengths inside = packet_lengths (receiver_in bytes) store bits from to none e p inside
+
+            pub call_packet : {notice : Notice} {heard new_store : List ℕ} → Passed bytes store (take n s.bytes) notice heard new_store → {new new_answer : List ℕ}
+                → new ≡ sets heard 37 (framing_bytes s.framing) → new_answer ≡ sets answer 0 (read_answer_bytes notice (s.at - from))
+                → CallRead (Ok u) new new_store new_answer
+            unfolding passed receiver_in
+            call_packet {notice} h written answered =
+                let after = (passed (receiver_in bytes) store (take n s.bytes)).receiver in
+                told
+                (ReadCalled-packet (receiver_in bytes) store bits from to none e p {left = after} {notice = notice} (h.0, refl, h.2))
+                (written ∙ ap (λ b. sets b 37 (framing_bytes s.framing)) h.1 ∙ framing_in_place bytes long after array.long s.framing left)
+                answered

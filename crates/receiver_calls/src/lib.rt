@@ -3,7 +3,7 @@
 
 ghost use Rattle.std.specs.Prelude.{◌≡◌, true, List, ◌+◌, ◌*◌, ◌≤◌, ◌<◌, length, take};
 ghost use Rattle.std.proofs.lemmas.List.Edits.{sets};
-ghost use Rattle.parsing.specs.Packets.{lead};
+ghost use Rattle.packet.specs.Answers.{answer_of};
 ghost use Rattle.notices.specs.declared.Slot.{Slot};
 ghost use Rattle.notices.specs.Slots.{slot_at, slot_in_range, slots_in_range};
 ghost use Rattle.notices.specs.Stores.{store_length, store_after_notice};
@@ -17,80 +17,75 @@ ghost use Rattle.receiver_calls.specs.Reading.{record_after_read, answer_after_r
 
 use framing::Check;
 use framing_layout::{framing_in, put_framing};
-use notices::{Notice, fates, slots, stores, system_notice};
-use packet::Found;
-use parsing::packets;
+use notices::passed::{Passed, PassedSegmented};
+use notices::stores::CircuitSlot;
+use notices::{Notice, slots, stores, system_notice};
+use packet::{Answer, Refusal};
 use receiver::Receiver;
 use receiver::call::quiet_notice;
 use receiver_layout::answers::put_read_answer;
 use receiver_layout::{put_slot, slot_in};
+use scanning::Stretch;
 
 // The first `count` slots in the bytes are in range.
+// Stays: (d) the clauses on the lengths of record and store: with arrays `read` lends `record.first_chunk_mut::<61>().unwrap()` to a second function like it, and 110 lines of laws lead from the first bytes to all.
 fn slots_in_range(bytes: &[u8], count: usize) -> bool
     requires { (receiver_length ≤ length bytes.now) × (count ≤ 4) }
     ensures { result ≡ slots_in_range (take count (receiver_in bytes.now).slots) }
 {
-    let mut i = 0;
-    while i < count {
-        let t = slot_in(bytes, 13 + 6 * i);
-        if !slots::slot_in_range(t) {
-            return false;
-        }
-        i += 1;
-    }
-    true
+    (0..count).all(|i| slots::slot_in_range(slot_in(bytes, 13 + 6 * i)))
 }
 
 // The record in the bytes is in range.
+#[tactic(auto, unfolding(receiver::specs::Record::in_range, receiver_layout::specs::ReceiverBytes::receiver_in, layout::specs::Layout::circuits_in, layout::specs::Layout::byte_at))]
 fn in_range(bytes: &[u8]) -> bool
     requires { receiver_length ≤ length bytes.now }
     ensures { result ≡ in_range (receiver_in bytes.now) }
 {
-    if !layout::circuits_in_range(bytes) {
-        return false;
-    }
-    if !slots_in_range(bytes, bytes[0] as usize) {
-        return false;
-    }
-    framing_layout::in_range(bytes, 37)
+    layout::circuits_in_range(bytes)
+        && slots_in_range(bytes, bytes[0] as usize)
+        && framing_layout::in_range(bytes, 37)
 }
 
-// Why a reading call is refused, by number; 0 if it is accepted.
-fn refusal(record: &[u8], store: &[u8], bits: &[u8], from: usize, to: usize) -> u8
+// A reading call is accepted, or refused.
+#[tactic(auto, unfolding(packet::specs::Answers::answer_of, packet::specs::Answers::answered, packet::specs::Answers::refusal_of, receiver::specs::Reading::read_refusal, notices::specs::Stores::store_length, notices::specs::Stores::system_place, packet::specs::Stores::region))]
+fn check(record: &[u8], store: &[u8], bits: &[u8], from: usize, to: usize) -> Answer
     requires { receiver_length ≤ length «record».now }
-    ensures { result ≡ read_refusal (receiver_in «record».now) store.now bits.now from to }
+    ensures { result ≡ answer_of (read_refusal (receiver_in «record».now) store.now bits.now from to) }
 {
     if !in_range(record) {
-        return 14;
+        return Err(Refusal::OutOfRange);
     }
     if store.len() < Receiver::STORE {
-        return 5;
+        return Err(Refusal::ShortStore);
     }
-    if to < from {
-        return 15;
+    if to < from || bits::past(bits, to) {
+        return Err(Refusal::WrongStretch);
     }
-    if bits::past(bits, to) {
-        return 15;
-    }
-    0
+    Ok(())
 }
 
 // A listed circuit's packet is heard: its slot in the bytes and the store are written.
-fn hear_circuit(record: &mut [u8], store: &mut [u8], circuit: usize, p: &[u8]) -> Notice
+fn hear_circuit(
+    record: &mut [u8],
+    store: &mut [u8],
+    circuit: usize,
+    packet: &PassedSegmented<'_>,
+) -> Notice
     requires { (receiver_length ≤ length «record».old) × (store_length ≤ length store.old) × (circuit < 4)
-        × (slot_in_range (slot_at (receiver_in «record».old).slots circuit) ≡ true) × (2 ≤ length p.now) × (lead p.now < length p.now)
-        × (length p.now ≤ 19) }
-    ensures { (result ≡ (heard_at circuit (receiver_in «record».old).slots p.now).notice)
-        × («record».new ≡ sets «record».old (13 + 6 * circuit) (slot_bytes (slot_after (fate_of (slot_at (receiver_in «record».old).slots circuit) p.now) (slot_at (receiver_in «record».old).slots circuit) p.now)))
-        × (store.new ≡ store_after_notice result (receiver_in «record».old).slots p.now store.old) }
+        × (slot_in_range (slot_at (receiver_in «record».old).slots circuit) ≡ true) }
+    ensures { (result ≡ (heard_at circuit (receiver_in «record».old).slots packet.now).notice)
+        × («record».new ≡ sets «record».old (13 + 6 * circuit) (slot_bytes (slot_after (fate_of (slot_at (receiver_in «record».old).slots circuit) packet.now) (slot_at (receiver_in «record».old).slots circuit) packet.now)))
+        × (store.new ≡ store_after_notice result (receiver_in «record».old).slots packet.now store.old) }
 {
     let at = 13 + 6 * circuit;
-    let t = slot_in(record, at);
-    let fate = fates::fate_of(t, p);
-    let loss = fates::loss_told(t, p);
-    let after = fates::slot_after(fate, t, p);
+    let listed = CircuitSlot::new(circuit, slot_in(record, at));
+    let slot = listed.slot;
+    let fate = slot.fate_of(packet.packet());
+    let loss = slot.loss_told(packet.packet().packet());
+    let after = slot.slot_after(fate, packet);
     put_slot(record, at, after);
-    stores::write_fate(store, fate, circuit, t, p);
+    listed.write_fate(store, fate, packet);
     Notice::Circuit {
         number: circuit,
         loss,
@@ -99,33 +94,32 @@ fn hear_circuit(record: &mut [u8], store: &mut [u8], circuit: usize, p: &[u8]) -
 }
 
 // A system packet is heard: its information goes to the store.
-fn hear_system(store: &mut [u8], p: &[u8]) -> Notice
-    requires { (store_length ≤ length store.old) × (2 ≤ length p.now) × (lead p.now < length p.now) × (length p.now ≤ 19) }
-    ensures { (ts : List Slot) → (result ≡ (system_heard ts p.now).notice) × (store.new ≡ store_after_notice result ts p.now store.old) }
+fn hear_system(store: &mut [u8], packet: &PassedSegmented<'_>) -> Notice
+    requires { store_length ≤ length store.old }
+    ensures { (ts : List Slot) → (result ≡ (system_heard ts packet.now).notice) × (store.new ≡ store_after_notice result ts packet.now store.old) }
 {
-    stores::write_system(store, p);
-    system_notice(p)
+    stores::write_system(store, packet);
+    system_notice(packet.packet())
 }
 
 // A packet that passed is heard by the receiver whose record is in the bytes.
-fn hear(record: &mut [u8], store: &mut [u8], p: &[u8]) -> Notice
+fn hear(record: &mut [u8], store: &mut [u8], packet: &Passed<'_>) -> Notice
     requires { (receiver_length ≤ length «record».old) × (is_receiver «record».old ≡ true) × (in_range (receiver_in «record».old) ≡ true)
-        × (store_length ≤ length store.old) × (2 ≤ length p.now) × (length p.now ≤ 19) }
-    ensures { (result ≡ (passed (receiver_in «record».old) store.old p.now).notice)
-        × («record».new ≡ sets «record».old 0 (receiver_bytes (passed (receiver_in «record».old) store.old p.now).receiver))
-        × (store.new ≡ (passed (receiver_in «record».old) store.old p.now).store) }
+        × (store_length ≤ length store.old) }
+    ensures { (result ≡ (passed (receiver_in «record».old) store.old packet.now).notice)
+        × («record».new ≡ sets «record».old 0 (receiver_bytes (passed (receiver_in «record».old) store.old packet.now).receiver))
+        × (store.new ≡ (passed (receiver_in «record».old) store.old packet.now).store) }
 {
-    if packets::malformed(p) {
+    let Some(segmented) = packet.well_formed() else {
         return Notice::Malformed;
+    };
+    if packet.packet().address() == 0xff {
+        return hear_system(store, &segmented);
     }
-    if packets::address_of(p) == 0xff {
-        return hear_system(store, p);
-    }
-    let circuit = packets::circuit_in(p);
-    let Found::At(number) = layout::number_in(record, circuit) else {
+    let Some(number) = layout::number_in(record, packet.packet().circuit()) else {
         return Notice::Elsewhere;
     };
-    hear_circuit(record, store, number, p)
+    hear_circuit(record, store, number, &segmented)
 }
 
 // The bits from number `from` up to `to` are read, until the first notice, by the receiver whose record is in the bytes.
@@ -136,29 +130,26 @@ pub fn read(
     from: usize,
     to: usize,
     answer: &mut [u8],
-) -> u32
+) -> Answer
     requires { (receiver_length ≤ length «record».old) × (is_receiver «record».old ≡ true) × (read_answer_length ≤ length answer.old) }
-    ensures { (result ≡ read_refusal (receiver_in «record».old) store.old bits.now from to)
+    ensures { (result ≡ answer_of (read_refusal (receiver_in «record».old) store.old bits.now from to))
         × («record».new ≡ record_after_read «record».old store.old bits.now from to)
         × (store.new ≡ store_after_read (receiver_in «record».old) store.old bits.now from to)
         × (answer.new ≡ answer_after_read «record».old store.old bits.now from to answer.old) }
 {
-    let number = refusal(record, store, bits, from, to);
-    if number != 0 {
-        return number as u32;
-    }
-    let scan = scanning::scan_known(framing_in(record, 37), true, bits, from, to);
-    let after = scan.framing;
-    let check = scan.check;
-    let read = scan.at - from;
-    let Check::Packet(n) = check else {
-        put_framing(record, 37, after);
-        put_read_answer(answer, quiet_notice(check), read);
-        return 0;
+    check(record, store, bits, from, to)?;
+    let stretch = Stretch {
+        bytes: bits,
+        from,
+        to,
     };
-    let packet = scan.bytes;
-    let notice = hear(record, store, &packet[..n]);
-    put_framing(record, 37, after);
+    let scan = scanning::scan_left(framing_in(record, 37), stretch);
+    let read = scan.at - from;
+    let notice = match scan.check {
+        Check::Packet(n) => hear(record, store, &Passed::new(&scan.bytes[..n])),
+        check => quiet_notice(check),
+    };
+    put_framing(record, 37, scan.framing);
     put_read_answer(answer, notice, read);
-    0
+    Ok(())
 }

@@ -8,6 +8,8 @@ use layout::{low_byte, put_number};
 use notices::{Fate, Notice};
 
 // What became of a packet, by number.
+// Stays: (d) as a function: `u8::from(fate)` would stand in `notices`, which has no bytes, and `Whole(_)` has a value beside it, so that no cast gives the number.
+#[tactic(auto, unfolding(crate::specs::Answers::fate_number))]
 fn fate_number(fate: Fate) -> u8
     ensures { result ≡ fate_number fate }
 {
@@ -22,16 +24,13 @@ fn fate_number(fate: Fate) -> u8
 }
 
 // The length of a whole message; 0 where there is none.
+#[tactic(auto, unfolding(crate::specs::Answers::whole_length))]
 fn whole_length(fate: Fate) -> usize
     ensures { result ≡ whole_length fate }
 {
     match fate {
-        Fate::Copy => 0,
-        Fate::Begun => 0,
-        Fate::Held => 0,
         Fate::Whole(n) => n,
-        Fate::Orphan => 0,
-        Fate::Wrong => 0,
+        Fate::Copy | Fate::Begun | Fate::Held | Fate::Orphan | Fate::Wrong => 0,
     }
 }
 
@@ -43,6 +42,7 @@ fn plain(number: u8) -> [u8; 8]
 }
 
 // A circuit's notice.
+#[tactic(auto, unfolding(crate::specs::Answers::notice_bytes, layout::specs::Layout::low_bytes))]
 fn circuit_notice(number: usize, loss: u8, fate: Fate) -> [u8; 8]
     ensures { result ≡ notice_bytes (Circuit number loss fate) }
 {
@@ -60,6 +60,7 @@ fn circuit_notice(number: usize, loss: u8, fate: Fate) -> [u8; 8]
 }
 
 // A notice's bytes.
+#[tactic(auto, unfolding(crate::specs::Answers::notice_bytes, layout::specs::Layout::low_bytes))]
 pub fn notice_bytes(notice: Notice) -> [u8; 8]
     ensures { result ≡ notice_bytes notice }
 {
@@ -78,6 +79,7 @@ pub fn notice_bytes(notice: Notice) -> [u8; 8]
 }
 
 // A reading call's answer goes to the start of the bytes lent: the notice, and how many bits were read.
+#[tactic(auto, using(layout::proofs::Copies::two_written), unfolding(crate::specs::Answers::read_answer_bytes))]
 pub fn put_read_answer(bytes: &mut [u8], notice: Notice, read: usize)
     requires { read_answer_length ≤ length bytes.old }
     ensures { bytes.new ≡ sets bytes.old 0 (read_answer_bytes notice read) }

@@ -8,7 +8,7 @@ ghost use Rattle.std.proofs.lemmas.List.Edits.{sets};
 ghost use Rattle.receiver_layout.specs.ReceiverBytes.{receiver_length, slot_bytes, slot_in, slots_bytes, receiver_bytes, is_receiver};
 
 use framing_layout::put_framing;
-use layout::{circuits_bytes, low_byte, word_at};
+use layout::{circuits_bytes, word_at};
 use notices::Slot;
 use receiver::Receiver;
 
@@ -18,23 +18,19 @@ pub const LENGTH: usize = 61;
 pub const ANSWER: usize = 16;
 
 // The bytes are some record's.
+// Stays: (a) slices with a length clause, here and in `put_receiver` and `put_read_answer`: an array of just 61 bytes asks more than at least 61, and docs/PROOFS.md names these functions.
+#[tactic(auto, unfolding(crate::specs::ReceiverBytes::is_receiver, layout::specs::Layout::byte_at))]
 pub fn is_receiver(bytes: &[u8]) -> bool
     requires { receiver_length ≤ length bytes.now }
     ensures { result ≡ is_receiver bytes.now }
 {
-    if 1 < bytes[13] {
-        return false;
-    }
-    if 1 < bytes[19] {
-        return false;
-    }
-    if 1 < bytes[25] {
-        return false;
-    }
-    bytes[31] <= 1
+    [bytes[13], bytes[19], bytes[25], bytes[31]]
+        .iter()
+        .all(|seen| *seen <= 1)
 }
 
 // The slot in six bytes.
+#[tactic(auto, unfolding(crate::specs::ReceiverBytes::slot_in, layout::specs::Layout::byte_at))]
 pub fn slot_in(bytes: &[u8], at: usize) -> Slot
     requires { at + 6 ≤ length bytes.now }
     ensures { result ≡ slot_in bytes.now at }
@@ -48,22 +44,24 @@ pub fn slot_in(bytes: &[u8], at: usize) -> Slot
 }
 
 // A slot's bytes.
+#[tactic(auto, using(bits::proofs::BitInByte::bool_byte_bit_value), unfolding(crate::specs::ReceiverBytes::slot_bytes, layout::specs::Layout::low_bytes))]
 fn slot_bytes(t: Slot) -> [u8; 6]
     ensures { result ≡ slot_bytes t }
 {
-    let length = t.length as usize;
-    let place = t.place as usize;
+    let length = t.length.to_le_bytes();
+    let place = t.place.to_le_bytes();
     [
-        t.seen as u8,
+        u8::from(t.seen),
         t.last,
-        low_byte(length),
-        low_byte(length / 256),
-        low_byte(place),
-        low_byte(place / 256),
+        length[0],
+        length[1],
+        place[0],
+        place[1],
     ]
 }
 
 // A slot's bytes go to byte `at` and those behind it.
+// Stays: (d) its like in sender_layout has other fields in other places: one function for both would be `copying::copy_at` with a length as a const parameter.
 pub fn put_slot(bytes: &mut [u8], at: usize, t: Slot)
     requires { at + 6 ≤ length bytes.old }
     ensures { bytes.new ≡ sets bytes.old at (slot_bytes t) }
@@ -77,10 +75,8 @@ fn put_slots(bytes: &mut [u8], slots: [Slot; 4])
     requires { receiver_length ≤ length bytes.old }
     ensures { bytes.new ≡ sets bytes.old 13 (slots_bytes slots) }
 {
-    put_slot(bytes, 13, slots[0]);
-    put_slot(bytes, 19, slots[1]);
-    put_slot(bytes, 25, slots[2]);
-    put_slot(bytes, 31, slots[3]);
+    let parts = slots.map(slot_bytes);
+    copying::copy_at(bytes, 13, parts.as_flattened());
 }
 
 // The record's bytes go to the start of the bytes lent.

@@ -1,10 +1,9 @@
 -- One turn of a scan: what reading the bit at a number makes of what is still to be read.
 use Prim.Native.Nat.{ℕ, suc, ◌+◌, ◌≤◌, ◌<◌}
-use mathlib.Core.Bool.{Bool, true, false, cond}
+use mathlib.Core.Bool.{Bool, true, false}
 use mathlib.Core.List.{List}
-use mathlib.Core.Path.{◌≡◌, refl}
+use mathlib.Core.Path.{◌≡◌, refl, sym, ◌∙◌}
 use native.Mathlib.Numerals.{add-one}
-use native.Mathlib.Omega.{arith}
 use lib.ListN.{length, get_or}
 use lib.Seq.{slice, slice_empty, slice-cons}
 use Rattle.framing.specs.declared.Framing.{Framing}
@@ -13,50 +12,54 @@ use Rattle.framing.specs.declared.Check.TheVariants.{Packet, Spoilt, Nothing}
 use Rattle.framing.specs.declared.Scan.{Scan}
 use Rattle.framing.specs.Machine.{step, closes, check}
 use Rattle.framing.specs.Scanning.{ended, stopped, scan}
+use Rattle.bits.specs.Bits.{bits_of}
+use Rattle.scanning.specs.declared.stretch.Stretch.{Stretch}
+use Rattle.scanning.specs.Ahead.{ReadAhead, stop, turn}
+
+-- ---- what a closed body gives
 
 -- an answer of which the code knows that it is not `Nothing` stops a scan
 stopped_by_lem : (k : Check) (f : Framing) (b : Bool) (at : ℕ) (later : Scan) → (k ≡ Nothing → ⊥)
-    → record { framing = step f b; at = suc at; check = k; bytes = f.bits } ≡ stopped k f b at later
+    → stopped k f b at later ≡ record { framing = step f b; at = suc at; check = k; bytes = f.bits }
 unfolding stopped
 stopped_by_lem (Packet n) f b at later t = refl
 stopped_by_lem Spoilt f b at later t = refl
 stopped_by_lem Nothing f b at later t = absurd (t refl)
 
--- one turn: b is the bit at number at, g the framing f as the code asks it whether b closes a body, and t its answer
-pub record Turn (f g : Framing) (bs : List Bool) (at to : ℕ) (b t : Bool) : Type 0 where
-  pub same : g ≡ f
-  pub below : at < to
-  pub there : to ≤ length bs
-  pub bit : b ≡ get_or bs at false
-  pub closing : t ≡ closes g b
-
-module _ {f g : Framing} {bs : List Bool} {at to : ℕ} {b t : Bool} (turn : Turn f g bs at to b t) where
-  scan_cons : scan f at (slice at to bs)
-      ≡ cond t (stopped (check f) f b at (scan (step f b) (at + 1) (slice (at + 1) to bs))) (scan (step f b) (at + 1) (slice (at + 1) to bs))
-  unfolding scan
-  scan_cons = rw (slice-cons at to bs false turn.below turn.there, ← turn.bit, turn.closing, turn.same, add-one)
-
+module _ (f : Framing) (b t : Bool) (at : ℕ) (closing : t ≡ closes f b) where
   -- it closes none
-  pub scan_quiet : (r : Framing) → t ≡ false → r ≡ step f b
-      → scan r (at + 1) (slice (at + 1) to bs) ≡ scan f at (slice at to bs)
-  scan_quiet r e s = rw (scan_cons, e, s)
+  pub turn_open : t ≡ false → (later : Scan) → turn f b at later ≡ later
+  turn_open e later = rw (← closing, e)
 
   -- it closes one; k is what that gives
-  module _ (g' : Framing) (k : Check) (e : t ≡ true) (same' : g' ≡ f) (ck : k ≡ check g') where
-    pub scan_nothing : (r : Framing) → k ≡ Nothing → r ≡ step f b
-        → scan r (at + 1) (slice (at + 1) to bs) ≡ scan f at (slice at to bs)
+  module _ (k : Check) (e : t ≡ true) (ck : k ≡ check f) where
+    pub turn_nothing : k ≡ Nothing → (later : Scan) → turn f b at later ≡ later
     unfolding stopped
-    scan_nothing r n s = rw (scan_cons, e, ← same', ← ck, n, same', s)
+    turn_nothing n later = rw (← closing, e, ← ck, n)
 
-    pub scan-stopped : (r : Framing) → (k ≡ Nothing → ⊥) → r ≡ step g' b
-        → record { framing = r; at = at + 1; check = k; bytes = f.bits } ≡ scan f at (slice at to bs)
-    scan-stopped r n s =
-        let q : k ≡ check f = rw same' at ck in
-        rw (scan_cons, e, s, same', add-one, ← q) (stopped_by_lem k f b at _ n)
+    pub turn_stopped : (s : Scan) → (k ≡ Nothing → ⊥) → s ≡ stop f b at k → (later : Scan) → turn f b at later ≡ s
+    turn_stopped s n is later = rw (← closing, e, ← ck, is, add-one) (stopped_by_lem k f b at later n)
+
+-- ---- the bit at number at
+
+module _ (f : Framing) (bs : List Bool) (at to : ℕ) (b : Bool) (below : at < to) (there : to ≤ length bs) (bit : b ≡ get_or bs at false) where
+  scan_cons : scan f at (slice at to bs) ≡ turn f b at (scan (step f b) (at + 1) (slice (at + 1) to bs))
+  unfolding scan
+  scan_cons = rw (slice-cons at to bs false below there, ← bit, add-one)
+
+  pub scan_goes_on : (r : Framing) → r ≡ step f b → ((later : Scan) → turn f b at later ≡ later)
+      → scan r (at + 1) (slice (at + 1) to bs) ≡ scan f at (slice at to bs)
+  scan_goes_on r s e = rw s (sym (scan_cons ∙ e (scan (step f b) (at + 1) (slice (at + 1) to bs))))
+
+  pub scan_stops : (s : Scan) → ((later : Scan) → turn f b at later ≡ s) → s ≡ scan f at (slice at to bs)
+  scan_stops s e = sym (scan_cons ∙ e (scan (step f b) (at + 1) (slice (at + 1) to bs)))
 
 -- no bit is left
-pub scan_end : (f r : Framing) (bs : List Bool) (at to : ℕ) → at ≤ to → to ≤ at → r ≡ f → ended r at ≡ scan f at (slice at to bs)
+pub scan_end : (f : Framing) (bs : List Bool) (at to n : ℕ) → at ≡ to → n ≡ to → ended f n ≡ scan f at (slice at to bs)
 unfolding scan
-scan_end f r bs at to lo hi e =
-    let q : at ≡ to = omega arith in
-    rw (q, slice_empty, e)
+scan_end f bs at to n q e = rw (q, e, slice_empty)
+
+-- what is read of the bits of a stretch behind some of them
+pub behind_read : {f g : Framing} (rest s : Stretch) (at : ℕ) {to : ℕ} → (rest.bytes ≡ s.bytes) × (rest.from ≡ at) × (rest.to ≡ s.to)
+    → ReadAhead f g (bits_of rest.bytes.now) rest.from to rest.to → ReadAhead f g (bits_of s.bytes.now) at to s.to
+behind_read rest s at e r = rw (e.0, e.1, e.2) at r

@@ -242,14 +242,14 @@ held_number z o =
     ap (low_bits (z + o)) a ∙ low_bits_split z o 0 (2 ^ o - 1) (pow_pos z) ∙ (λ i. low_bits-zero z i ++ ones_word o i)
 
 -- the start
-pub reading_start : (h : Head) (stored : List ℕ) (bits : List Bool) (from to z v : ℕ) (first g : Gathered) (stored₁ stored₂ : List ℕ) →
-    LeftBy (framing_of h stored) → 1 < h.phase → h.ones ≤ 5 → from ≤ to → z ≡ cond (eqb h.phase 3) 1 0 →
-    ((y : List Bool) → length y ≡ h.count → stored ≡ fill_bytes 21 y → (168 < h.count → y ≡ replicate 169 false) → Gathers first stored₁ y) →
+pub reading_start : (h : Framing) (bits : List Bool) (from to z v : ℕ) (first g : Gathered) (stored₁ stored₂ : List ℕ) →
+    LeftBy h → 1 < h.phase → h.ones ≤ 5 → from ≤ to → z ≡ cond (eqb h.phase 3) 1 0 →
+    ((y : List Bool) → length y ≡ h.count → h.bits ≡ fill_bytes 21 y → (168 < h.count → y ≡ replicate 169 false) → Gathers first stored₁ y) →
     low_bits (z + h.ones) v ≡ replicate z false ++ replicate h.ones true →
     ((y : List Bool) → Gathers first stored₁ y → Gathers g stored₂ (y ++ low_bits (z + h.ones) v)) → g.len < 8 →
-    Reading (framing_of h stored) bits from from to h.phase h.ones g stored₂
-reading_start h stored bits from to z v first g stored₁ stored₂ left in_body few l e kept-is held-is more part =
-    let b : Body (framing_of h stored) = body_is (framing_of h stored) left in_body in
+    Reading h bits from from to h.phase h.ones g stored₂
+reading_start h bits from to z v first g stored₁ stored₂ left in_body few l e kept-is held-is more part =
+    let b : Body h = body_is h left in_body in
     let held : low_bits (z + h.ones) v ≡ held_bits h.phase h.ones = held-is ∙ held_zeros h.phase h.ones z e in
     record {
       kept = b.kept;
@@ -365,14 +365,13 @@ ahead-fresh f left e r = rw (fresh_is f left e) r
 pub left_outside : (f : Framing) → LeftBy f → f.phase ≡ 1 → LeftBy (outside f.ones)
 left_outside f left e = rw (hunting_is f left e) at left
 
-pub ahead_hunting : (f : Framing) (o : ℕ) {bits : List Bool} {from at to : ℕ} → LeftBy f → f.phase ≡ 1 → ReadAhead (outside f.ones) (outside o) bits from at to →
-    ReadAhead f (record { phase = 1; ones = o; count = 0; bits = f.bits }) bits from at to
-ahead_hunting f o {bits} {from} {at} {to} left e r =
-    let is : f ≡ outside f.ones = hunting_is f left e in
-    let zeros : f.bits ≡ replicate 21 0 = ap (λ (g : Framing). g.bits) is in
-    let same : outside o ≡ record { phase = 1; ones = o; count = 0; bits = f.bits } = λ i. record { phase = 1; ones = o; count = 0; bits = sym zeros i } in
-    subst (λ (h : Framing). ReadAhead h (record { phase = 1; ones = o; count = 0; bits = f.bits }) bits from at to) (sym is)
-    (subst (λ (h : Framing). ReadAhead (outside f.ones) h bits from at to) same r)
+pub ahead_hunting : (h g : Head) (stored : List ℕ) {bits : List Bool} {from at to : ℕ} → LeftBy (framing_of h stored) → h.phase ≡ 1 →
+    ReadAhead (outside h.ones) (framing_of g (replicate 21 0)) bits from at to → ReadAhead (framing_of h stored) (framing_of g stored) bits from at to
+ahead_hunting h g stored {bits} {from} {at} {to} left e r =
+    let is : framing_of h stored ≡ outside h.ones = hunting_is (framing_of h stored) left e in
+    let zeros : stored ≡ replicate 21 0 = ap (λ (f : Framing). f.bits) is in
+    subst (λ (f : Framing). ReadAhead f (framing_of g stored) bits from at to) (sym is)
+    (subst (λ (s : List ℕ). ReadAhead (outside h.ones) (framing_of g s) bits from at to) (sym zeros) r)
 
 -- one more bit
 pub left_step : (f : Framing) (b : Bool) → LeftBy f → LeftBy (step f b)

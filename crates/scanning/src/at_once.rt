@@ -1,26 +1,28 @@
 // Bits read a word at a time from a framing that bits leave: before any zero as long as they are ones, outside a body and in one as long as no six ones
 // stand in a row.
-ghost use Rattle.std.specs.Prelude.{◌≡◌, true, false, cond, ◌++◌, ◌+◌, ◌*◌, ◌^◌, ◌≤◌, ◌<◌, eqb, length, get_or, replicate};
-ghost use Rattle.std.proofs.Math.Seq.{slice};
+ghost use Rattle.std.specs.Prelude.{◌≡◌, true, false, cond, ◌++◌, ◌+◌, ◌^◌, ◌≤◌, ◌<◌, eqb, get_or, replicate};
 ghost use Rattle.bits.specs.Bits.{low_bits, bits_of};
 ghost use Rattle.framing.specs.Heads.{framing_of};
 ghost use Rattle.framing.specs.Machine.{fresh};
 ghost use Rattle.framing.specs.Range.{LeftBy};
-ghost use Rattle.framing.specs.Scanning.{scan};
 ghost use Rattle.scanning.specs.Ahead.{outside, ReadAhead};
 
-use crate::{Ahead, Hunt};
+use crate::{Ahead, Stretch};
 use framing::{Head, plain_zeros};
-use words::gathering;
+use words::{Word, gathering};
+
+// A word of ones.
+const ONES: u64 = 0xff_ffff_ffff_ffff;
 
 // Words of ones read before any zero.
-fn ones_ahead(bytes: &[u8], from: usize, to: usize) -> usize
-    requires { (from ≤ to) × (to ≤ 8 * length bytes.now) }
-    ensures { ReadAhead fresh fresh (bits_of bytes.now) from result to }
+// Stays: (d) a `while`: `for at in (from..last).step_by(56)` needs the place of the last word first, and behind it once more the place where the words ended. The two below go on by pieces of a word, of lengths that only reading tells.
+fn ones_ahead(stretch: Stretch<'_>) -> usize
+    ensures { ReadAhead fresh fresh (bits_of stretch.entry.bytes.now) stretch.entry.from result stretch.entry.to }
 {
-    let mut at = from;
-    while 64 <= to - at {
-        if words::word_at(bytes, at) != 0xff_ffff_ffff_ffff {
+    let mut at = stretch.from;
+    while stretch.has_word(at) {
+        let word = Word::at(stretch.bytes, at);
+        if word.bits != ONES {
             return at;
         }
         at += 56;
@@ -29,41 +31,38 @@ fn ones_ahead(bytes: &[u8], from: usize, to: usize) -> usize
 }
 
 // If this is true, a word is there, and no sixth one in a row stands first in it.
-fn goes_on(bytes: &[u8], at: usize, to: usize, ones: usize) -> bool
-    requires { (at ≤ to) × (to ≤ 8 * length bytes.now) }
-    ensures { result ≡ true → (at + 64 ≤ to) × (ones ≡ 5 → false ≡ get_or (bits_of bytes.now) at false) }
+fn goes_on(stretch: Stretch<'_>, at: usize, ones: usize) -> bool
+    requires { at ≤ stretch.to }
+    ensures { result ≡ true → (at + 64 ≤ stretch.entry.to) × (ones ≡ 5 → false ≡ get_or (bits_of stretch.entry.bytes.now) at false) }
 {
-    if to - at < 64 {
-        return false;
-    }
-    if ones != 5 {
-        return true;
-    }
-    !bits::reader::bit_at(bytes, at)
+    stretch.has_word(at) && (ones != 5 || !stretch.bit(at))
 }
 
 // Words read outside a body, behind a zero and so many ones.
-fn hunt(behind: u8, bytes: &[u8], from: usize, to: usize) -> Hunt
-    requires behind_bound { (behind ≤ 5) × LeftBy (outside behind) }
-    requires from_le_to { (from ≤ to) × (to ≤ 8 * length bytes.now) }
-    ensures { ReadAhead (outside behind) (outside result.ones) (bits_of bytes.now) from result.at to }
+fn hunt(behind: u8, stretch: Stretch<'_>) -> Ahead
+    requires { (behind ≤ 5) × LeftBy (outside behind) }
+    ensures { ReadAhead (outside behind) (framing_of result.head (replicate 21 0)) (bits_of stretch.entry.bytes.now) stretch.entry.from result.at stretch.entry.to }
 {
     let mut ones = behind as usize;
-    let mut at = from;
-    while goes_on(bytes, at, to, ones) {
+    let mut at = stretch.from;
+    while goes_on(stretch, at, ones) {
         if ones == 5 {
             ones = 0;
             at += 1;
             continue;
         }
-        let word = words::word_at(bytes, at);
-        let n = words::until_five(word, ones);
-        ones = words::ones_behind(word, ones, n);
+        let word = Word::at(stretch.bytes, at);
+        let n = word.until_five(ones);
+        ones = word.ones_behind(ones, n);
         at += n;
     }
-    Hunt {
-        ones: ones as u8,
-        at: at,
+    Ahead {
+        head: Head {
+            phase: 1,
+            ones: ones as u8,
+            count: 0,
+        },
+        at,
     }
 }
 
@@ -76,6 +75,7 @@ fn held_bits(zeros: usize, ones: usize) -> u64
 }
 
 // The phase behind n bits up to the fifth one in a row, where so many ones stand before them.
+// Stays: (a) a number: a record lent by C holds any byte as its phase.
 fn phase_behind(phase: u8, n: usize, ones: usize) -> u8
     requires { (n ≤ 56) × (ones ≤ 4) }
     ensures { result ≡ cond (eqb (n + ones) 5) phase 3 }
@@ -84,98 +84,58 @@ fn phase_behind(phase: u8, n: usize, ones: usize) -> u8
 }
 
 // Words read in a body, piece by piece: bits up to the fifth one in a row, and the zero behind it, which is dropped.
-fn body_ahead(head: Head, bytes: &[u8], from: usize, to: usize, bits: &mut [u8; 21]) -> Ahead
-    requires lt_phase { (1 < head.phase) × (head.ones ≤ 5) × LeftBy (framing_of head bits.old) }
-    requires from_le_to { (from ≤ to) × (to ≤ 8 * length bytes.now) }
-    ensures { ReadAhead (framing_of head bits.old) (framing_of result.head bits.new) (bits_of bytes.now) from result.at to }
+fn body_ahead(head: Head, stretch: Stretch<'_>, bits: &mut [u8; 21]) -> Ahead
+    requires { (1 < head.phase) × (head.ones ≤ 5) × LeftBy (framing_of head bits.old) }
+    ensures { ReadAhead (framing_of head bits.old) (framing_of result.head bits.new) (bits_of stretch.entry.bytes.now) stretch.entry.from result.at stretch.entry.to }
 {
     let mut phase = head.phase;
     let mut ones = head.ones as usize;
-    let mut at = from;
+    let mut at = stretch.from;
     let zeros = plain_zeros(phase);
     let first = gathering::kept(bits, head.count as usize);
     let mut gathered = gathering::gather(first, bits, held_bits(zeros, ones), zeros + ones);
-    while goes_on(bytes, at, to, ones) {
+    while goes_on(stretch, at, ones) {
         if ones == 5 {
             phase = 4;
             ones = 0;
             at += 1;
             continue;
         }
-        let word = words::word_at(bytes, at);
-        let len = words::until_five(word, ones);
-        gathered = gathering::gather(gathered, bits, words::lowest(word, len), len);
+        let word = Word::at(stretch.bytes, at);
+        let len = word.until_five(ones);
+        gathered = gathering::gather(gathered, bits, words::lowest(word.bits, len), len);
         phase = phase_behind(phase, len, ones);
-        ones = words::ones_behind(word, ones, len);
+        ones = word.ones_behind(ones, len);
         at += len;
     }
     let count = gathering::settled(gathered, bits, plain_zeros(phase) + ones);
     Ahead {
         head: Head {
-            phase: phase,
+            phase,
             ones: ones as u8,
-            count: count,
+            count,
         },
-        at: at,
+        at,
     }
 }
 
-// Words read from this head on, as its phase asks.
-fn words_ahead(head: Head, bytes: &[u8], from: usize, to: usize, bits: &mut [u8; 21]) -> Ahead
-    requires left_by { LeftBy (framing_of head bits.old) }
-    requires from_le_to { (from ≤ to) × (to ≤ 8 * length bytes.now) }
-    ensures { ReadAhead (framing_of head bits.old) (framing_of result.head bits.new) (bits_of bytes.now) from result.at to }
+// Words read from this head on, as its phase asks, if there are any.
+pub fn ahead(head: Head, stretch: Stretch<'_>, bits: &mut [u8; 21]) -> Ahead
+    requires { LeftBy (framing_of head bits.old) }
+    ensures { ReadAhead (framing_of head bits.old) (framing_of result.head bits.new) (bits_of stretch.entry.bytes.now) stretch.entry.from result.at stretch.entry.to }
 {
-    if head.phase == 0 {
-        let at = ones_ahead(bytes, from, to);
-        return Ahead { head: head, at };
-    }
-    if 5 < head.ones {
+    if !stretch.has_word(stretch.from) || 5 < head.ones {
         return Ahead {
-            head: head,
-            at: from,
+            head,
+            at: stretch.from,
         };
     }
-    if head.phase == 1 {
-        let hunted = hunt(head.ones, bytes, from, to);
-        return Ahead {
-            head: Head {
-                phase: 1,
-                ones: hunted.ones,
-                count: 0,
-            },
-            at: hunted.at,
-        };
+    match head.phase {
+        0 => Ahead {
+            head,
+            at: ones_ahead(stretch),
+        },
+        1 => hunt(head.ones, stretch),
+        _ => body_ahead(head, stretch, bits),
     }
-    body_ahead(head, bytes, from, to, bits)
-}
-
-// Words read from this head on, if its framing is known to be one that bits leave and there are any.
-pub fn ahead(
-    head: Head,
-    known: bool,
-    bytes: &[u8],
-    from: usize,
-    to: usize,
-    bits: &mut [u8; 21],
-) -> Ahead
-    requires left_by { known ≡ true → LeftBy (framing_of head bits.old) }
-    requires from_le_to { (from ≤ to) × (to ≤ 8 * length bytes.now) }
-    ensures { (from ≤ result.at) × (result.at ≤ to) × (known ≡ true → LeftBy (framing_of result.head bits.new))
-        × (scan (framing_of result.head bits.new) result.at (slice result.at to (bits_of bytes.now))
-        ≡ scan (framing_of head bits.old) from (slice from to (bits_of bytes.now))) }
-{
-    if !known {
-        return Ahead {
-            head: head,
-            at: from,
-        };
-    }
-    if to - from < 64 {
-        return Ahead {
-            head: head,
-            at: from,
-        };
-    }
-    words_ahead(head, bytes, from, to, bits)
 }

@@ -1,86 +1,17 @@
--- The refusals of a block call: the code's tests are those of the definition, and what is known where none of them holds.
+-- What is known where no refusal of a block call holds.
 use mathlib.Core.Path.{◌≡◌, refl}
-use Prim.Native.Nat.{ℕ, ◌+◌, ◌*◌, ◌/◌, ◌≤◌, ◌<◌}
+use Prim.Native.Nat.{ℕ, ◌*◌, ◌≤◌}
 use native.Mathlib.Omega.{arith}
 use mathlib.Core.Bool.{Bool, true, false, cond, not, ◌&&◌, ◌||◌}
 use mathlib.Core.List.{List}
 use lib.ListN.{length}
 use lib.Dec.{ltb}
-use borrow.Author.Tests.{ltb-false, lt-ltb, le-ltb, not-false}
+use borrow.Author.Tests.{ltb-false, not-false}
 use Rattle.bits.proofs.Tests.{or_left, or_right}
 use Rattle.offering.specs.declared.Sender.{Sender}
-use Rattle.packet.specs.Stores.{region}
 use Rattle.offering.specs.Record.{store_length, in_range}
 use Rattle.sender.specs.Blocks.{System, wrong_size, short_buffer, wrong_system, block_refusal}
 use Rattle.sender.specs.BlockCalls.{Allowed}
-
--- ---- each refusal, behind the tests that come before it
-
-module _ (s : Sender) (store buffer : List ℕ) (n u : ℕ) (y : System) where
-  -- the number that the call is given
-  abbrev Gives : ℕ → Type 0
-  Gives k = k ≡ block_refusal s store buffer n u y
-
-  pub gives_14 : in_range s ≡ false → Gives 14
-  unfolding block_refusal
-  gives_14 range = rw range
-
-  module _ (range : in_range s ≡ true) where
-    pub gives_5 : length store < 16384 → Gives 5
-    unfolding block_refusal store_length region
-    gives_5 h = rw (range, lt-ltb (length store) 16384)
-
-    module _ (long : 16384 ≤ length store) where
-      pub gives_11_short : n < 256 → Gives 11
-      unfolding block_refusal wrong_size store_length region
-      gives_11_short h = rw (range, le-ltb (length store) 16384, lt-ltb n 256)
-
-      module _ (least : 256 ≤ n) where
-        pub gives_11_long : 27000 < n → Gives 11
-        unfolding block_refusal wrong_size store_length region
-        gives_11_long h = rw (range, le-ltb (length store) 16384, le-ltb n 256, lt-ltb 27000 n)
-
-        module _ (most : n ≤ 27000) where
-          pub gives_11_few : u < 256 → Gives 11
-          unfolding block_refusal wrong_size store_length region
-          gives_11_few h = rw (range, le-ltb (length store) 16384, le-ltb n 256, le-ltb 27000 n, lt-ltb u 256)
-
-          module _ (some : 256 ≤ u) where
-            pub gives_11_many : n < u → Gives 11
-            unfolding block_refusal wrong_size store_length region
-            gives_11_many h = rw (range, le-ltb (length store) 16384, le-ltb n 256, le-ltb 27000 n, le-ltb u 256, lt-ltb n u)
-
-            module _ (within : u ≤ n) where
-              -- a buffer under N bits has fewer than N / 8 bytes, rounded up
-              pub gives_12 : length buffer < (n + 7) / 8 → Gives 12
-              unfolding block_refusal wrong_size short_buffer store_length region
-              gives_12 h =
-                  let short : 8 * length buffer < n = omega arith in
-                  rw (
-                    range,
-                    le-ltb (length store) 16384,
-                    le-ltb n 256,
-                    le-ltb 27000 n,
-                    le-ltb u 256,
-                    le-ltb n u,
-                    lt-ltb (8 * length buffer) n,
-                  )
-
-              -- what is left is the system packet
-              pub gives_rest : (n + 7) / 8 ≤ length buffer → (k : ℕ) → k ≡ cond (wrong_system y) 13 0 → Gives k
-              unfolding block_refusal wrong_size short_buffer store_length region
-              gives_rest h k e =
-                  let enough : n ≤ 8 * length buffer = omega arith in
-                  rw (
-                    range,
-                    le-ltb (length store) 16384,
-                    le-ltb n 256,
-                    le-ltb 27000 n,
-                    le-ltb u 256,
-                    le-ltb n u,
-                    le-ltb (8 * length buffer) n,
-                  )
-                  e
 
 -- ---- an accepted call
 

@@ -1,23 +1,26 @@
 -- Making a block step by step: the opening, the frames, the closing ones and the spare zeros leave the record, the answer and the buffer that the
 -- definitions say, and a refused call leaves those that were given.
-use mathlib.Core.Path.{◌≡◌, ◌∙◌}
+use Rattle.std.proofs.Common.{Ok, Err, Option, None, Some, IfSome}
+use mathlib.Core.Path.{◌≡◌, refl, sym, ◌∙◌}
 use Prim.Native.Nat.{ℕ, ◌*◌, ◌≤◌}
 use native.Mathlib.Nat.{zero-add}
 use native.Mathlib.Omega.{arith}
 use mathlib.Core.Bool.{Bool, true, false}
 use mathlib.Core.List.{List}
-use mathlib.Core.Option.{Option}
 use lib.ListN.{length}
 use lib.Dec.{eqb}
-use borrow.Author.Tests.{ne_eqb}
 use Rattle.bits.specs.Bits.{Bytes}
 use Rattle.hdlc.specs.Writing.{Written}
 use Rattle.hdlc.specs.declared.zeros.Framed.{Framed}
 use Rattle.hdlc.proofs.Writing.{Written_append}
+use Rattle.packet.specs.declared.Refusal.{Refusal}
+use Rattle.packet.specs.Answers.{answered, answer_of}
+use Rattle.packet.proofs.AnswerNumbers.{answered-Err}
+use Rattle.sender.proofs.MadeNumbers.{answer_of-Err}
 use Rattle.offering.specs.declared.Sender.{Sender}
 use Rattle.offering.specs.Record.{store_length, in_range}
-use Rattle.sender.specs.declared.Fill.{Fill}
-use Rattle.sender.specs.declared.Made.TheVariants.{Block, Refused}
+use Rattle.sender.specs.declared.Block.{Block}
+use Rattle.sender.specs.declared.SystemPacket.{SystemPacket}
 use Rattle.sender.specs.Blocks.{
   frames_bits,
   added_in_frames,
@@ -38,7 +41,7 @@ use Rattle.sender.specs.Blocks.{
   sender_after_block,
   buffer_after_block,
 }
-use Rattle.sender.specs.BlockCalls.{Allowed, OpeningWritten, FramesWritten, Closed, made_of, answer_to_block, BlockWritten, BlockCalled}
+use Rattle.sender.specs.BlockCalls.{asked, Allowed, OpeningWritten, FramesWritten, Closed, made_of, answer_to_block, BlockWritten, BlockCalled}
 use Rattle.sender.proofs.UsedBits.{added_in_frames_append, added_within, used_bits-behind}
 use Rattle.sender.proofs.UsedAtMostU.{used_at_most_U}
 use Rattle.sender.proofs.OpeningBits.{length_opening}
@@ -47,22 +50,22 @@ use Rattle.sender.proofs.InForce.{accepted-ruled_in_range}
 use Rattle.sender.proofs.BlockBits.{Closed-block_buffer}
 
 -- frames written behind those of any packets before them
-module _ (s : Sender) (store : List ℕ) (u : ℕ) (before : List (List ℕ)) (new_enable : Option ℕ) {old b₁ b₂ : List ℕ} {front : Framed} {r : Fill}
+module _ (s : Sender) (store : List ℕ) (u : ℕ) (before : List (List ℕ)) (new_enable : Option ℕ) {old b₁ b₂ : List ℕ} {front : Framed} {after : Sender} {r : Block}
     (opened : OpeningWritten old before b₁ front)
-    (f : FramesWritten b₁ front (fill_up (ruled s new_enable) store front.at (ruled s new_enable).enable u) b₂ r) where
-  FramesWritten-block : FramesWritten b₁ front (block_filled s store u before new_enable) b₂ r
+    (f : FramesWritten b₁ front (fill_up (ruled s new_enable) store front.at (ruled s new_enable).enable u) b₂ after r) where
+  FramesWritten-block : FramesWritten b₁ front (block_filled s store u before new_enable) b₂ after r
   unfolding block_filled
   FramesWritten-block =
       let e : front.at ≡ length (flagged_frames before) = opened.written.behind ∙ zero-add (length (flagged_frames before)) in
       rw (← e) f
 
-  Written_used : Written old 0 (used_bits s store u before new_enable) b₂ r.at
+  Written_used : Written old 0 (used_bits s store u before new_enable) b₂ r.used
   Written_used =
       let ours = placed_packets (block_filled s store u before new_enable).frames in
       rw (used_bits-behind s store u before new_enable)
       (Written_append (flagged_frames before) (frames_bits ours) opened.written FramesWritten-block.written)
 
-  used_end : r.at ≡ length (used_bits s store u before new_enable)
+  used_end : r.used ≡ length (used_bits s store u before new_enable)
   used_end = Written_used.behind ∙ zero-add (length (used_bits s store u before new_enable))
 
   zeros_all : r.zeros ≡ added_in_frames (block_packets s store u before new_enable)
@@ -77,19 +80,15 @@ module _ (s : Sender) (store old : List ℕ) (n u : ℕ) (y : System) where
   under enable = record { circuits = s.circuits; slots = s.slots; last = s.last; enable = enable }
 
   -- a refused call
-  pub BlockCalled_refused : (k : ℕ) → k ≡ block_refusal s store old n u y → (k ≡ 0 → ⊥)
-      → BlockCalled s store old n u y old (record { made = Refused k; sender = s })
+  pub BlockCalled_refused : (r : Refusal) → answer_of (block_refusal s store old n u y) ≡ Err r → BlockCalled s store old n u y old s (Err r)
   unfolding sender_after_block buffer_after_block answer_to_block made_of
-  BlockCalled_refused k e h =
-      let no : eqb (block_refusal s store old n u y) 0 ≡ false = rw (← e) (ne_eqb k 0 h) in
-      record { sender = rw no; made = rw (no, e); buffer = rw no }
+  BlockCalled_refused r e =
+      let no : eqb (block_refusal s store old n u y) 0 ≡ false = answer_of-Err _ r e in
+      record { sender = rw no; made = sym (answered-Err _ _ r e); buffer = rw no }
 
   module _ (h : block_refusal s store old n u y ≡ 0) where
     known : Accepted s store old n u y
     known = accepted s store old n u y h
-
-    pub before_opening : (256 ≤ 8 * length old) × (y.wanted ≡ true → Allowed y.enable y.code y.information)
-    before_opening = (omega (arith, known), known.allowed)
 
     -- the opening is written
     module _ {b₁ : List ℕ} {front : Framed} (opened : OpeningWritten old (system_packets y) b₁ front) (l₁ : length b₁ ≡ length old) where
@@ -104,26 +103,26 @@ module _ (s : Sender) (store old : List ℕ) (n u : ℕ) (y : System) where
           (range, (known.store_long, (few, within, omega (arith, l₁, known), omega (arith, known))))
 
       -- and the frames are, under the enable bits in force
-      module _ {enable : ℕ} {b₂ : List ℕ} {r : Fill} (e : enable ≡ in_force s.enable (enable_bits y))
-          (f : FramesWritten b₁ front (fill_up (under enable) store front.at enable u) b₂ r) (l₂ : length b₂ ≡ length b₁) where
-        frames : FramesWritten b₁ front (fill_up (ruled s (enable_bits y)) store front.at (ruled s (enable_bits y)).enable u) b₂ r
+      module _ {enable : ℕ} {b₂ : List ℕ} {after : Sender} {r : Block} (e : enable ≡ in_force s.enable (enable_bits y))
+          (f : FramesWritten b₁ front (fill_up (under enable) store front.at enable u) b₂ after r) (l₂ : length b₂ ≡ length b₁) where
+        frames : FramesWritten b₁ front (fill_up (ruled s (enable_bits y)) store front.at (ruled s (enable_bits y)).enable u) b₂ after r
         unfolding ruled
         frames = rw (← e) f
 
         abbrev used : List Bool
         used = used_bits s store u (system_packets y) (enable_bits y)
 
-        end : r.at ≡ length used
+        end : r.used ≡ length used
         end = used_end s store u (system_packets y) (enable_bits y) opened frames
 
         used_le : length used ≤ u
         used_le = used_at_most_U s store old n u y h
 
-        pub before_closing : (r.at ≤ n) × (n ≤ 27000) × (n ≤ 8 * length b₂)
+        pub before_closing : (r.used ≤ n) × (n ≤ 27000) × (n ≤ 8 * length b₂)
         before_closing = (omega (arith, end, used_le, known), omega (arith, known), omega (arith, l₁, l₂, known))
 
         -- and the block is closed
-        pub BlockWritten-closed : {new : List ℕ} → Closed b₂ r.at n new → Bytes old → Bytes new → BlockWritten s store old n u y new r
+        pub BlockWritten-closed : {new : List ℕ} → Closed b₂ r.used n new → Bytes old → Bytes new → BlockWritten s store old n u y new after r
         unfolding sender_after_block buffer_after_block used_bits block_bits block_of
         BlockWritten-closed {new} closed ho hn =
             let filling = FramesWritten-block s store u (system_packets y) (enable_bits y) opened frames in
@@ -137,7 +136,21 @@ module _ (s : Sender) (store old : List ℕ) (n u : ℕ) (y : System) where
             }
 
     -- what the call returns then
-    pub BlockCalled-made : {new : List ℕ} {r : Fill} → BlockWritten s store old n u y new r
-        → BlockCalled s store old n u y new (record { made = Block r.placed r.at r.zeros; sender = r.sender })
-    unfolding answer_to_block made_of
-    BlockCalled-made w = record { sender = w.sender; made = rw (h, w.placed, w.used, w.zeros); buffer = w.buffer }
+    pub BlockCalled-made : {new : List ℕ} {after : Sender} {r : Block} → BlockWritten s store old n u y new after r
+        → BlockCalled s store old n u y new after (Ok r)
+    unfolding answer_to_block made_of answered
+    BlockCalled-made w = record { sender = w.sender; made = rw (h, ← w.placed, ← w.used, ← w.zeros); buffer = w.buffer }
+
+-- what a request asks for
+module _ (s : Sender) (store old : List ℕ) (n u : ℕ) (system : Option SystemPacket) (h : block_refusal s store old n u (asked system) ≡ 0) where
+  -- where a system packet is asked for, it is allowed
+  allowed : (o : Option SystemPacket) → ((asked o).wanted ≡ true → Allowed (asked o).enable (asked o).code (asked o).information)
+      → IfSome o (λ packet. Allowed packet.enable packet.code packet.information.now)
+  unfolding asked
+  allowed None a = tt
+  allowed (Some packet) a = a refl
+
+  pub before_opening : (256 ≤ 8 * length old) × IfSome system (λ packet. Allowed packet.enable packet.code packet.information.now)
+  before_opening =
+      let known : Accepted s store old n u (asked system) = accepted s store old n u (asked system) h in
+      (omega (arith, known), allowed system known.allowed)

@@ -1,11 +1,11 @@
 -- One turn of filling a block: a frame written and its circuit served, and what is left to fill from there is what was left before, without it.
-use mathlib.Core.Path.{◌≡◌, refl, sym, ap, ◌∙◌}
-use Prim.Native.Nat.{ℕ, suc, ◌+◌, ◌*◌, ◌^◌, ◌≤◌, ◌<◌}
+use mathlib.Core.Path.{◌≡◌, refl, sym, ◌∙◌}
+use Prim.Native.Nat.{ℕ, ◌+◌, ◌*◌, ◌^◌, ◌≤◌, ◌<◌}
 use native.Mathlib.Nat.{add-zero, zero-add}
 use native.Mathlib.Omega.{arith}
 use mathlib.Core.Bool.{true, false}
 use mathlib.Core.List.{List, ◌++◌}
-use mathlib.Core.Option.{none, some}
+use Rattle.std.proofs.Common.{None, Some}
 use lib.ListN.{length, length-append}
 use lib.Dec.{leb}
 use borrow.Author.Tests.{leb-true, leb-false, le-leb, lt-leb}
@@ -18,31 +18,31 @@ use Rattle.hdlc.proofs.Writing.{Written_append}
 use Rattle.offering.specs.declared.Sender.{Sender}
 use Rattle.offering.specs.Record.{store_length, slot_at, pending, in_range}
 use Rattle.picking.specs.Picking.{pick, served}
-use Rattle.picking.proofs.PickingLaws.{served_in_range, length-served}
+use Rattle.picking.proofs.PickingLaws.{served_in_range}
 use Rattle.writing.specs.NextFrame.{next_packet, next_frame}
 use Rattle.writing.proofs.FrameLength.{length-next_frame}
-use Rattle.sender.specs.declared.Fill.{Fill}
+use Rattle.sender.specs.declared.Block.{Block}
 use Rattle.sender.specs.Blocks.{frames_bits, added_in_frames, PlacedFrame, placed_packets, Filled, full, and_then, placing, fill_up}
 use Rattle.sender.specs.BlockCalls.{FramesWritten}
 use Rattle.sender.proofs.Filling.{fill_up-step}
 
-module _ (s : Sender) (store : List ℕ) (at enable u : ℕ) (e : in_range s ≡ true) (l : length s.slots ≡ 4) where
+module _ (s : Sender) (store : List ℕ) (at enable u : ℕ) (e : in_range s ≡ true) where
   -- filling ends where none is picked, and where the frame that is would pass u
-  fill_up-none : pick s enable ≡ none → fill_up s store at enable u ≡ full s
+  fill_up-none : pick s enable ≡ None → fill_up s store at enable u ≡ full s
   unfolding placing
-  fill_up-none p = fill_up-step s store at enable u e l ∙ rw p
+  fill_up-none p = fill_up-step s store at enable u e ∙ rw p
 
-  module _ (c : ℕ) (p : pick s enable ≡ some c) where
+  module _ (c : ℕ) (p : pick s enable ≡ Some c) where
     fill_up-past : u < at + length (next_frame s store c) → fill_up s store at enable u ≡ full s
     unfolding placing
-    fill_up-past h = fill_up-step s store at enable u e l ∙ rw (p, lt-leb (at + length (next_frame s store c)) u h)
+    fill_up-past h = fill_up-step s store at enable u e ∙ rw (p, lt-leb (at + length (next_frame s store c)) u h)
 
     -- and otherwise goes on behind it
     fill_up_more : at + length (next_frame s store c) ≤ u
         → fill_up s store at enable u ≡ and_then (record { number = c; packet = next_packet s store c })
         (fill_up (served s c) store (at + length (next_frame s store c)) enable u)
     unfolding placing
-    fill_up_more h = fill_up-step s store at enable u e l ∙ rw (p, le-leb (at + length (next_frame s store c)) u h)
+    fill_up_more h = fill_up-step s store at enable u e ∙ rw (p, le-leb (at + length (next_frame s store c)) u h)
 
 -- the bit behind a circuit's next frame
 pub next_frame_end : (s : Sender) (store : List ℕ) (c : ℕ) {old new : List ℕ} {at : ℕ} {r : Framed} → FrameWritten old at (next_packet s store c) new r
@@ -72,16 +72,20 @@ next_frame_some s store c = rw length-append (omega (arith, length-flag))
 abbrev with_next : Framed → Framed → Framed
 with_next front next = record { at = next.at; zeros = front.zeros + next.zeros }
 
+-- what is told, with n frames placed before
+abbrev with_more : ℕ → Block → Block
+with_more n r = record { placed = n + r.placed; used = r.used; zeros = r.zeros }
+
 -- a frame written before what is filled behind it
-FramesWritten-and_then : {old mid new : List ℕ} {front next : Framed} (p : PlacedFrame) (f : Filled) (r : Fill)
-    → FrameWritten old front.at p.packet mid next → FramesWritten mid (with_next front next) f new r
-    → FramesWritten old front (and_then p f) new (record { sender = r.sender; at = r.at; placed = suc r.placed; zeros = r.zeros })
+FramesWritten-and_then : {old mid new : List ℕ} {front next : Framed} (p : PlacedFrame) (f : Filled) (after : Sender)
+    (r : Block) → FrameWritten old front.at p.packet mid next → FramesWritten mid (with_next front next) f new after r
+    → FramesWritten old front (and_then p f) new after (with_more 1 r)
 unfolding and_then placed_packets frames_bits added_in_frames
-FramesWritten-and_then p f r w g =
+FramesWritten-and_then p f after r w g =
     record {
       sender = g.sender;
       written = Written_append (frame p.packet ++ flag) (frames_bits (placed_packets f.frames)) w.written g.written;
-      placed = ap suc g.placed;
+      placed = omega (arith, g.placed);
       zeros = omega (arith, g.zeros, w.zeros);
     }
 
@@ -90,38 +94,36 @@ pub record ToFill (old : List ℕ) (s₀ : Sender) (store : List ℕ) (front : F
     : Type 0 where
   pub long : length buffer ≡ length old
   pub range : in_range s ≡ true
-  pub slots : length s.slots ≡ 4
   pub within : at ≤ u
   pub few : placed ≤ at
   pub fewer : zeros ≤ at
-  pub rest : (new : List ℕ) (r : Fill) → FramesWritten buffer (record { at = at; zeros = zeros }) (fill_up s store at enable u) new r
-      → FramesWritten old front (fill_up s₀ store front.at enable u) new
-      (record { sender = r.sender; at = r.at; placed = placed + r.placed; zeros = r.zeros })
+  pub rest : (new : List ℕ) (after : Sender) (r : Block)
+      → FramesWritten buffer (record { at = at; zeros = zeros }) (fill_up s store at enable u) new after r
+      → FramesWritten old front (fill_up s₀ store front.at enable u) new after (with_more placed r)
 
-pub ToFill_start : (old : List ℕ) (s : Sender) (store : List ℕ) (front : Framed) (enable u : ℕ) → in_range s ≡ true → length s.slots ≡ 4
+pub ToFill_start : (old : List ℕ) (s : Sender) (store : List ℕ) (front : Framed) (enable u : ℕ) → in_range s ≡ true
     → front.zeros ≤ front.at → front.at ≤ u → ToFill old s store front enable u old s front.at 0 front.zeros
-ToFill_start old s store front enable u range slots fewer within =
+ToFill_start old s store front enable u range fewer within =
     record {
       long = refl;
       range = range;
-      slots = slots;
       within = within;
       few = omega arith;
       fewer = fewer;
-      rest = λ new r f. record { sender = f.sender; written = f.written; placed = zero-add r.placed ∙ f.placed; zeros = f.zeros };
+      rest = λ new after r f. record { sender = f.sender; written = f.written; placed = zero-add r.placed ∙ f.placed; zeros = f.zeros };
     }
 
 module _ {old : List ℕ} {s₀ : Sender} {store : List ℕ} {front : Framed} {enable u : ℕ} {buffer : List ℕ} {s : Sender} {at placed zeros : ℕ}
     (g : ToFill old s₀ store front enable u buffer s at placed zeros) where
   -- all is filled
   abbrev Done : Type 0
-  Done = FramesWritten old front (fill_up s₀ store front.at enable u) buffer (record { sender = s; at = at; placed = placed; zeros = zeros })
+  Done = FramesWritten old front (fill_up s₀ store front.at enable u) buffer s (record { placed = placed; used = at; zeros = zeros })
 
   ends : fill_up s store at enable u ≡ full s → Done
   unfolding full placed_packets frames_bits added_in_frames
   ends e =
-      let nothing : Fill = record { sender = s; at = at; placed = 0; zeros = zeros } in
-      let here : FramesWritten buffer (record { at = at; zeros = zeros }) (fill_up s store at enable u) buffer nothing =
+      let nothing : Block = record { placed = 0; used = at; zeros = zeros } in
+      let here : FramesWritten buffer (record { at = at; zeros = zeros }) (fill_up s store at enable u) buffer s nothing =
       rw e
       (record {
         sender = refl;
@@ -129,14 +131,14 @@ module _ {old : List ℕ} {s₀ : Sender} {store : List ℕ} {front : Framed} {e
         placed = refl;
         zeros = sym (add-zero zeros);
       }) in
-      rw add-zero at (g.rest buffer nothing here)
+      rw add-zero at (g.rest buffer s nothing here)
 
-  pub ToFill-none : pick s enable ≡ none → Done
-  ToFill-none p = ends (fill_up-none s store at enable u g.range g.slots p)
+  pub ToFill-none : pick s enable ≡ None → Done
+  ToFill-none p = ends (fill_up-none s store at enable u g.range p)
 
-  module _ {c : ℕ} (p : pick s enable ≡ some c) where
+  module _ {c : ℕ} (p : pick s enable ≡ Some c) where
     pub ToFill-past : leb (at + length (next_frame s store c)) u ≡ false → Done
-    ToFill-past h = ends (fill_up-past s store at enable u g.range g.slots c p (leb-false _ _ h))
+    ToFill-past h = ends (fill_up-past s store at enable u g.range c p (leb-false _ _ h))
 
     module _ (h : leb (at + length (next_frame s store c)) u ≡ true) where
       fits : at + length (next_frame s store c) ≤ u
@@ -159,23 +161,21 @@ module _ {old : List ℕ} {s₀ : Sender} {store : List ℕ} {front : Framed} {e
             record {
               long = l ∙ g.long;
               range = served_in_range s enable c g.range p;
-              slots = length-served s c ∙ g.slots;
               within = omega (arith, fits, end);
               few = omega (arith, next_frame_some s store c, end, g.few);
               fewer = zeros_within;
               rest = again;
             }
           where
-            again : (new : List ℕ) (r : Fill)
-                → FramesWritten more (record { at = next.at; zeros = zeros + next.zeros }) (fill_up (served s c) store next.at enable u) new r
-                → FramesWritten old front (fill_up s₀ store front.at enable u) new
-                (record { sender = r.sender; at = r.at; placed = placed + 1 + r.placed; zeros = r.zeros })
-            again new r f =
+            again : (new : List ℕ) (after : Sender) (r : Block)
+                → FramesWritten more (record { at = next.at; zeros = zeros + next.zeros }) (fill_up (served s c) store next.at enable u) new after r
+                → FramesWritten old front (fill_up s₀ store front.at enable u) new after (with_more (placed + 1) r)
+            again new after r f =
                 let later = fill_up (served s c) store next.at enable u in
                 let here : PlacedFrame = record { number = c; packet = next_packet s store c } in
                 let e : fill_up s store at enable u ≡ and_then here later =
-                rw (← end) at (fill_up_more s store at enable u g.range g.slots c p fits) in
-                let n : placed + suc r.placed ≡ placed + 1 + r.placed = omega arith in
+                rw (← end) at (fill_up_more s store at enable u g.range c p fits) in
+                let n : placed + (1 + r.placed) ≡ placed + 1 + r.placed = omega arith in
                 rw n at
-                (g.rest new (record { sender = r.sender; at = r.at; placed = suc r.placed; zeros = r.zeros })
-                (rw e (FramesWritten-and_then here later r w f)))
+                (g.rest new after (with_more 1 r)
+                (rw e (FramesWritten-and_then here later after r w f)))

@@ -2,7 +2,7 @@
 use Prim.Native.Nat.{ℕ, ◌≤◌}
 use mathlib.Core.Bool.{Bool, true, false, cond}
 use mathlib.Core.List.{List}
-use mathlib.Core.Option.{Option, none, some}
+use Rattle.std.proofs.Common.{Option, None, Some}
 use mathlib.Core.Path.{◌≡◌, refl}
 use Rattle.offering.specs.declared.Sender.{Sender}
 use Rattle.offering.specs.Record.{in_range}
@@ -26,7 +26,7 @@ module _ (s : Sender) (store buffer : List ℕ) (n u : ℕ) (y : System) (e : bl
       go y.wanted a.allowed (in_range_facts s a.record_in_range).enable
     where
       go : (w : Bool) → (w ≡ true → Allowed y.enable y.code y.information) → s.enable ≤ 15
-          → in_force s.enable (cond w (some y.enable) none) ≤ 15
+          → in_force s.enable (cond w (Some y.enable) None) ≤ 15
       go true allowed few = (allowed refl).enable
       go false allowed few = few
 

@@ -1,16 +1,39 @@
 -- The answer to a block call that a number gives has that number.
-use Prim.Native.Nat.{ℕ}
-use mathlib.Core.Bool.{Bool, true, false, cond}
-use mathlib.Core.Path.{◌≡◌, refl, sym}
-use borrow.Author.Tests.{eqb-true}
-use lib.Dec.{eqb}
-use Rattle.sender.specs.declared.Made.TheVariants.{Block, Refused}
-use Rattle.sender.specs.BlockCalls.{made_of, made_number}
+use Rattle.std.proofs.Common.{◌≡◌, ℕ, ◌≤◌, Bool, true, false, List, Result, Ok, Err, eqb, cond, refl, arith}
+use Rattle.packet.specs.declared.Refusal.{Refusal}
+use Rattle.packet.specs.Answers.{refusal_of, answered, answer_of}
+use Rattle.packet.proofs.AnswerNumbers.{answer_number-answered}
+use Rattle.offering.specs.declared.Sender.{Sender}
+use Rattle.sender.specs.Blocks.{System, block_refusal}
+use Rattle.sender.specs.BlockCalls.{made_of, made_number, answer_to_block}
 
-pub made_number-made_of : (n placed used zeros : ℕ) → made_number (made_of n placed used zeros) ≡ n
+pub made_number-made_of : (n placed used zeros : ℕ) → n ≤ 17 → made_number (made_of n placed used zeros) ≡ n
 unfolding made_number made_of
-made_number-made_of n placed used zeros = go (eqb n 0) refl
+made_number-made_of n placed used zeros most = answer_number-answered n _ most
+
+-- so has the answer to a block call
+refused-most : (a b c d e : Bool) → cond a 14 (cond b 5 (cond c 11 (cond d 12 (cond e 13 0)))) ≤ 17
+refused-most true b c d e = omega arith
+refused-most false true c d e = omega arith
+refused-most false false true d e = omega arith
+refused-most false false false true e = omega arith
+refused-most false false false false true = omega arith
+refused-most false false false false false = omega arith
+
+block_refusal-most : (s : Sender) (store buffer : List ℕ) (n u : ℕ) (y : System) → block_refusal s store buffer n u y ≤ 17
+unfolding block_refusal
+block_refusal-most s store buffer n u y = refused-most _ _ _ _ _
+
+pub made_number-answer_to_block : (s : Sender) (store buffer : List ℕ) (n u : ℕ) (y : System)
+    → made_number (answer_to_block s store buffer n u y) ≡ block_refusal s store buffer n u y
+unfolding answer_to_block
+made_number-answer_to_block s store buffer n u y = made_number-made_of _ _ _ _ (block_refusal-most s store buffer n u y)
+
+-- a refusal has a number that is not 0
+pub answer_of-Err : (n : ℕ) (r : Refusal) → answer_of n ≡ Err r → eqb n 0 ≡ false
+unfolding answer_of answered
+answer_of-Err n r = go (eqb n 0)
   where
-    go : (t : Bool) → eqb n 0 ≡ t → made_number (cond t (Block placed used zeros) (Refused n)) ≡ n
-    go true e = sym (eqb-true n 0 e)
-    go false e = refl
+    go : (t : Bool) → ◌≡◌ {A = Result (Unit {0}) Refusal} (cond t (Ok tt) (Err (refusal_of n))) (Err r) → t ≡ false
+    go true h = cc
+    go false h = refl

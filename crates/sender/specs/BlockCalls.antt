@@ -1,15 +1,15 @@
 -- What the functions of block making say of the record, the answer and the buffer (document 01, "Blocks" and "Calls and their refusals"; document
 -- 02, ask 6).
-use Rattle.std.specs.Prelude.{ℕ, ◌+◌, ◌-◌, ◌*◌, ◌/◌, ◌≤◌, Bool, true, false, cond, List, ◌≡◌, length, replicate, eqb}
+use Rattle.std.specs.Prelude.{ℕ, ◌+◌, ◌-◌, ◌*◌, ◌/◌, ◌≤◌, Bool, true, false, List, [], ◌≡◌, length, replicate, Option, None, Some, Result}
 use Rattle.std.proofs.lemmas.List.Edits.{sets}
 use Rattle.bits.specs.Bits.{bits_of}
 use Rattle.hdlc.specs.Writing.{Written}
 use Rattle.hdlc.specs.declared.zeros.Framed.{Framed}
+use Rattle.packet.specs.declared.Refusal.{Refusal}
+use Rattle.packet.specs.Answers.{answered, answer_number}
 use Rattle.offering.specs.declared.Sender.{Sender}
-use Rattle.sender.specs.declared.Fill.{Fill}
-use Rattle.sender.specs.declared.Made.{Made}
-use Rattle.sender.specs.declared.Made.TheVariants.{Block, Refused}
-use Rattle.sender.specs.declared.Making.{Making}
+use Rattle.sender.specs.declared.Block.{Block}
+use Rattle.sender.specs.declared.SystemPacket.{SystemPacket}
 use Rattle.sender.specs.Blocks.{
   frames_bits,
   added_in_frames,
@@ -31,6 +31,11 @@ use Rattle.sender.specs.Blocks.{
 abbrev pub system : Bool → ℕ → ℕ → List ℕ → System
 system wanted enable code information = record { wanted = wanted; enable = enable; code = code; information = information }
 
+-- what a request asks for
+unfoldable pub asked : Option SystemPacket → System
+asked None = system false 0 0 []
+asked (Some packet) = system true packet.enable packet.code packet.information.now
+
 -- a system packet that refusal 13 lets pass
 pub record Allowed (e c : ℕ) (bytes : List ℕ) : Type 0 where
   pub enable : e ≤ 15
@@ -42,10 +47,10 @@ pub record OpeningWritten (old : List ℕ) (packets : List (List ℕ)) (new : Li
   pub written : Written old 0 (flagged_frames packets) new r.at
   pub zeros : r.zeros ≡ added_in_frames packets
 
--- the frames are written behind what `front` tells of, and `r` tells of them; its zeros are those of both
-pub record FramesWritten (old : List ℕ) (front : Framed) (f : Filled) (new : List ℕ) (r : Fill) : Type 0 where
-  pub sender : r.sender ≡ f.sender
-  pub written : Written old front.at (frames_bits (placed_packets f.frames)) new r.at
+-- the frames are written behind what `front` tells of, `after` is the record then, and `r` tells of them; its zeros are those of both
+pub record FramesWritten (old : List ℕ) (front : Framed) (f : Filled) (new : List ℕ) (after : Sender) (r : Block) : Type 0 where
+  pub sender : after ≡ f.sender
+  pub written : Written old front.at (frames_bits (placed_packets f.frames)) new r.used
   pub placed : r.placed ≡ length f.frames
   pub zeros : r.zeros ≡ front.zeros + added_in_frames (placed_packets f.frames)
 
@@ -55,13 +60,12 @@ pub record Closed (old : List ℕ) (used n : ℕ) (new : List ℕ) : Type 0 wher
 
 -- the answer to a block call: "The answer has frames placed (system excluded) and bits used", with the added zeros (document 02, ask 6), or the
 -- refusal's number
-unfoldable pub made_of : ℕ → ℕ → ℕ → ℕ → Made
-made_of refusal placed used zeros = cond (eqb refusal 0) (Block placed used zeros) (Refused refusal)
+unfoldable pub made_of : ℕ → ℕ → ℕ → ℕ → Result Block Refusal
+made_of refusal placed used zeros = answered refusal (record { placed = placed; used = used; zeros = zeros })
 
 -- the number of an answer in document 01: 0 stands for a block
-unfoldable pub made_number : Made → ℕ
-made_number (Block placed used zeros) = 0
-made_number (Refused n) = n
+unfoldable pub made_number : Result Block Refusal → ℕ
+made_number made = answer_number made
 
 -- "frames placed (system excluded)", and "bits used, which are those before the closing ones"
 abbrev pub frames_placed : Sender → List ℕ → ℕ → System → ℕ
@@ -74,20 +78,21 @@ bits_used s store u y = length (used_bits s store u (system_packets y) (enable_b
 abbrev pub zeros_added : Sender → List ℕ → ℕ → System → ℕ
 zeros_added s store u y = added_in_frames (block_packets s store u (system_packets y) (enable_bits y))
 
-unfoldable pub answer_to_block : Sender → List ℕ → List ℕ → ℕ → ℕ → System → Made
+unfoldable pub answer_to_block : Sender → List ℕ → List ℕ → ℕ → ℕ → System → Result Block Refusal
 answer_to_block s store buffer n u y =
     made_of (block_refusal s store buffer n u y) (frames_placed s store u y) (bits_used s store u y) (zeros_added s store u y)
 
--- the block of an accepted call is written, and `r` tells of it
-pub record BlockWritten (s : Sender) (store old : List ℕ) (n u : ℕ) (y : System) (new : List ℕ) (r : Fill) : Type 0 where
-  pub sender : r.sender ≡ sender_after_block s store old n u y
+-- the block of an accepted call is written, `after` is the record then, and `r` tells of it
+pub record BlockWritten (s : Sender) (store old : List ℕ) (n u : ℕ) (y : System) (new : List ℕ) (after : Sender) (r : Block) : Type 0 where
+  pub sender : after ≡ sender_after_block s store old n u y
   pub placed : r.placed ≡ frames_placed s store u y
-  pub used : r.at ≡ bits_used s store u y
+  pub used : r.used ≡ bits_used s store u y
   pub zeros : r.zeros ≡ zeros_added s store u y
   pub buffer : new ≡ buffer_after_block s store old n u y
 
 -- what a block call returns and leaves
-pub record BlockCalled (s : Sender) (store old : List ℕ) (n u : ℕ) (y : System) (new : List ℕ) (r : Making) : Type 0 where
-  pub sender : r.sender ≡ sender_after_block s store old n u y
-  pub made : r.made ≡ answer_to_block s store old n u y
+pub record BlockCalled (s : Sender) (store old : List ℕ) (n u : ℕ) (y : System) (new : List ℕ) (after : Sender) (r : Result Block Refusal)
+    : Type 0 where
+  pub sender : after ≡ sender_after_block s store old n u y
+  pub made : r ≡ answer_to_block s store old n u y
   pub buffer : new ≡ buffer_after_block s store old n u y

@@ -1,6 +1,5 @@
 -- Block making (document 01, "Blocks" and "Calls and their refusals"; document 02, asks 4 and 6).
-use Rattle.std.specs.Prelude.{ℕ, zero, suc, ◌+◌, ◌-◌, ◌*◌, ◌/◌, Bool, true, cond, not, ◌&&◌, ◌||◌, List, [], ◌∷◌, ◌++◌, map, length, drop, take, replicate, leb, ltb, eqb}
-use Rattle.std.proofs.Math.Option.{Option, none, some}
+use Rattle.std.specs.Prelude.{ℕ, zero, suc, ◌+◌, ◌-◌, ◌*◌, ◌/◌, Bool, true, cond, not, ◌&&◌, ◌||◌, List, [], ◌∷◌, ◌++◌, map, length, drop, take, replicate, leb, ltb, eqb, Option, None, Some}
 use Rattle.bits.specs.Bits.{bytes_of}
 use Rattle.hdlc.specs.Frames.{flag, frame, added_in}
 use Rattle.packet.specs.Packets.{system_packet}
@@ -55,8 +54,8 @@ and_then p f = record { sender = f.sender; frames = p ∷ f.frames }
 
 -- what a picked circuit gives: its next frame, and what comes later, unless "the picked frame and its flag would pass U"
 unfoldable pub placing : Option ℕ → Sender → List ℕ → ℕ → ℕ → (ℕ → Filled) → Filled
-placing none s store at u later = full s
-placing (some c) s store at u later =
+placing None s store at u later = full s
+placing (Some c) s store at u later =
     let more = and_then (record { number = c; packet = next_packet s store c }) (later c) in
     cond (leb (at + length (next_frame s store c)) u) more (full s)
 
@@ -94,13 +93,13 @@ system_packets y = cond y.wanted (system_packet y.enable y.code y.information �
 
 -- its enable bits, if one is wanted
 unfoldable pub enable_bits : System → Option ℕ
-enable_bits y = cond y.wanted (some y.enable) none
+enable_bits y = cond y.wanted (Some y.enable) None
 
 -- "its enable bits rule its own block and all later ones, until another system packet is sent" (document 02, ask 4): those in force, where
 -- `held` were before
 unfoldable pub in_force : ℕ → Option ℕ → ℕ
-in_force held none = held
-in_force held (some enable) = enable
+in_force held None = held
+in_force held (Some enable) = enable
 
 -- the record that a block is made from, with the enable bits in force in it
 unfoldable pub ruled : Sender → Option ℕ → Sender

@@ -1,50 +1,54 @@
 // Blocks: the opening, the frames behind it, the closing ones and the spare zeros.
-ghost use Rattle.std.specs.Prelude.{◌≡◌, ℕ, ◌+◌, ◌*◌, ◌≤◌, ◌<◌, true, cond, List, ◌++◌, length, leb};
+ghost use Rattle.std.specs.Prelude.{◌≡◌, ◌+◌, ◌*◌, ◌≤◌, ◌<◌, true, cond, ◌++◌, length, leb, IfSome};
 ghost use Rattle.hdlc.specs.Frames.{flag, frame};
 ghost use Rattle.hdlc.specs.Writing.{Room, FrameWritten};
 ghost use Rattle.packet.specs.Packets.{system_packet};
+ghost use Rattle.packet.specs.Answers.{answer_of};
 ghost use Rattle.offering.specs.declared.Sender.{Sender};
 ghost use Rattle.offering.specs.Record.{store_length, slot_at, pending, in_range};
 ghost use Rattle.writing.specs.NextFrame.{next_frame};
 ghost use Rattle.sender.specs.Blocks.{fill_up, system_packets, enable_bits, in_force, wrong_system, block_refusal};
-ghost use Rattle.sender.specs.BlockCalls.{system, Allowed, OpeningWritten, FramesWritten, Closed, BlockWritten, BlockCalled};
+ghost use Rattle.sender.specs.BlockCalls.{asked, Allowed, OpeningWritten, FramesWritten, Closed, BlockWritten, BlockCalled};
 
-use crate::{Fill, Made, Making};
+use crate::{Block, BlockRequest, SystemPacket};
 use hdlc::led::below;
 use hdlc::zeros::Framed;
 use offering::Sender;
-use picking::{Pick, rule};
+use packet::{Answer, Refusal};
+use picking::rule;
 
 // The longest frame of a packet, with its flag: 19 bytes and the FCS, stuffed.
 const LONGEST: usize = 209;
 
 // A system packet's frame written at bit `at`, and the flag behind it.
-fn put_system(buf: &mut [u8], at: usize, enable: u8, code: u8, information: &[u8]) -> Framed
-    requires allowed { Allowed enable code information.now }
-    requires room { Room buf.old at (frame (system_packet enable code information.now) ++ flag) }
-    ensures { FrameWritten buf.old at (system_packet enable code information.now) buf.new result }
+fn put_system(buf: &mut [u8], at: usize, packet: SystemPacket<'_>) -> Framed
+    requires allowed { Allowed packet.enable packet.code packet.information.now }
+    requires room { Room buf.old at (frame (system_packet packet.enable packet.code packet.information.now) ++ flag) }
+    ensures { FrameWritten buf.old at (system_packet packet.entry.enable packet.entry.code packet.entry.information.now) buf.new result }
 {
+    let information = packet.information;
     let n = information.len() as u8;
-    let descriptor = below(16 * code + n, 0);
-    let number = below(0xff, below(192 + enable, descriptor));
+    let descriptor = below(16 * packet.code + n, 0);
+    let number = below(0xff, below(192 + packet.enable, descriptor));
     let end = hdlc::led::write_led(buf, at, number, 3, information);
     Framed::of(3 + information.len(), at, end)
 }
 
 // What a block begins with: a flag, and if one is wanted the system packet's frame and a flag.
-fn put_opening(buf: &mut [u8], wanted: bool, enable: u8, code: u8, information: &[u8]) -> Framed
+fn put_opening(buf: &mut [u8], system: Option<SystemPacket<'_>>) -> Framed
     requires bound { 256 ≤ 8 * length buf.old }
-    requires allowed { wanted ≡ true → Allowed enable code information.now }
-    ensures { OpeningWritten buf.old (system_packets (system wanted enable code information.now)) buf.new result }
+    requires allowed { IfSome system (λ packet. Allowed packet.enable packet.code packet.information.now) }
+    ensures { OpeningWritten buf.old (system_packets (asked system.entry)) buf.new result }
 {
     let at = hdlc::put_flag(buf, 0);
-    if !wanted {
-        return Framed { at, zeros: 0 };
+    match system {
+        Some(packet) => put_system(buf, at, packet),
+        None => Framed { at, zeros: 0 },
     }
-    put_system(buf, at, enable, code, information)
 }
 
 // The frame that is next at a circuit, with its flag, does not pass u. Only near u is it measured, written into an array of its own.
+// Stays: (d) the facts are those that `writing::put_next` asks for: as a struct this is `fits(Next { sender, store, circuit }, at, u)`, and its one caller calls `put_next` with the three parts.
 fn fits(sender: Sender, store: &[u8], circuit: usize, at: usize, u: usize) -> bool
     requires sender_value { in_range sender ≡ true }
     requires circuit_lt_count { circuit < sender.circuits.count }
@@ -62,46 +66,39 @@ fn fits(sender: Sender, store: &[u8], circuit: usize, at: usize, u: usize) -> bo
 }
 
 // Frames behind what is written already, each with a flag after it, until none waits or the next would pass u; the zeros are counted on from there.
-fn fill(buf: &mut [u8], sender: Sender, store: &[u8], front: Framed, enable: u8, u: usize) -> Fill
-    requires sender_value { in_range sender ≡ true }
+fn fill(buf: &mut [u8], sender: &mut Sender, store: &[u8], front: Framed, u: usize) -> Block
+    requires sender_value { in_range sender.old ≡ true }
     requires store_length_in_bounds { store_length ≤ length store.now }
     requires zeros_le_at { (front.zeros ≤ front.at) × (front.at ≤ u) × (u ≤ 8 * length buf.old) × (u ≤ 27000) }
-    ensures { FramesWritten buf.old front (fill_up sender store.now front.at enable u) buf.new result }
+    ensures { FramesWritten buf.old front (fill_up sender.old store.now front.at sender.old.enable u) buf.new sender.new result }
 {
-    let mut s = sender;
-    let mut end = front.at;
-    let mut placed: usize = 0;
+    let enable = sender.enable;
+    let mut used = front.at;
+    let mut placed = 0;
     let mut zeros = front.zeros;
-    loop {
-        let picked = rule::pick(s, enable);
-        let Pick::Circuit(circuit) = picked else {
-            break;
-        };
-        if !fits(s, store, circuit, end, u) {
+    while let Some(circuit) = rule::pick(*sender, enable) {
+        if !fits(*sender, store, circuit, used, u) {
             break;
         }
-        let framed = writing::put_next(buf, end, s, store, circuit);
-        end = framed.at;
+        let framed = writing::put_next(buf, used, *sender, store, circuit);
+        used = framed.at;
         zeros += framed.zeros;
-        s = rule::serve(s, circuit);
+        rule::serve(sender, circuit);
         placed += 1;
     }
-    Fill {
-        sender: s,
-        at: end,
+    Block {
         placed,
+        used,
         zeros,
     }
 }
 
 // The enable bits in force in a block: its system packet's, or those held before it.
-fn in_force(held: u8, wanted: bool, enable: u8) -> u8
-    ensures { (c : ℕ) (bytes : List ℕ) → result ≡ in_force held (enable_bits (system wanted enable c bytes)) }
+#[tactic(auto, unfolding(crate::specs::BlockCalls::asked, crate::specs::Blocks::enable_bits, crate::specs::Blocks::in_force))]
+fn in_force(held: u8, system: Option<SystemPacket<'_>>) -> u8
+    ensures { result ≡ in_force held (enable_bits (asked system.entry)) }
 {
-    if !wanted {
-        return held;
-    }
-    enable
+    system.map_or(held, |packet| packet.enable)
 }
 
 // The end of a block of n bits: ones from bit `used` on, and zeros in what is left of the last byte.
@@ -110,135 +107,79 @@ fn close(buf: &mut [u8], used: usize, n: usize)
     ensures { Closed buf.old used n buf.new }
 {
     bits::put_long_run(buf, used, n - used, true);
-    bits::put_run(buf, n, 8 * ((n + 7) / 8) - n, false);
+    bits::put_run(buf, n, 8 * n.div_ceil(8) - n, false);
 }
 
-// The refusal of what is asked for as a system packet, 0 if there is none.
-fn system_refusal(wanted: bool, enable: u8, code: u8, information: &[u8]) -> u8
-    ensures { result ≡ cond (wrong_system (system wanted enable code information.now)) 13 0 }
+// What is asked for as a system packet is refused, or not.
+#[tactic(auto, unfolding(crate::specs::BlockCalls::asked, crate::specs::Blocks::wrong_system, packet::specs::Answers::answer_of, packet::specs::Answers::answered, packet::specs::Answers::refusal_of))]
+fn check_system(system: Option<SystemPacket<'_>>) -> Answer
+    ensures { result ≡ answer_of (cond (wrong_system (asked system.entry)) 13 0) }
 {
-    if !wanted {
-        return 0;
+    match system {
+        Some(packet) if 15 < packet.enable || 8 < packet.code || 15 < packet.information.len() => {
+            Err(Refusal::WrongSystem)
+        }
+        _ => Ok(()),
     }
-    if 15 < enable {
-        return 13;
-    }
-    if 8 < code {
-        return 13;
-    }
-    if 15 < information.len() {
-        return 13;
-    }
-    0
 }
 
-// The refusal of a block call to a sender in range, 0 if it is accepted.
-pub fn later_refusal(
-    store: &[u8],
-    buf: &[u8],
-    n: usize,
-    u: usize,
-    wanted: bool,
-    enable: u8,
-    code: u8,
-    information: &[u8],
-) -> u8
-    ensures { (s : Sender) → in_range s ≡ true → result ≡ block_refusal s store.now buf.now n u (system wanted enable code information.now) }
+// A block call to a sender in range is refused, or not.
+#[tactic(auto, unfolding(crate::specs::Blocks::block_refusal, crate::specs::Blocks::wrong_size, crate::specs::Blocks::short_buffer, offering::specs::Record::store_length, packet::specs::Stores::region, packet::specs::Answers::answer_of, packet::specs::Answers::answered, packet::specs::Answers::refusal_of))]
+pub fn check_later(store: &[u8], buf: &[u8], request: &BlockRequest<'_>) -> Answer
+    ensures { (s : Sender) → in_range s ≡ true → result ≡ answer_of (block_refusal s store.now buf.now request.now.n request.now.u (asked request.now.system)) }
 {
     if store.len() < Sender::STORE {
-        return 5;
+        return Err(Refusal::ShortStore);
     }
-    if n < 256 {
-        return 11;
+    if !(256..=27000).contains(&request.n) || !(256..=request.n).contains(&request.u) {
+        return Err(Refusal::WrongSize);
     }
-    if 27000 < n {
-        return 11;
+    if buf.len() < request.n.div_ceil(8) {
+        return Err(Refusal::ShortBuffer);
     }
-    if u < 256 {
-        return 11;
-    }
-    if n < u {
-        return 11;
-    }
-    if buf.len() < (n + 7) / 8 {
-        return 12;
-    }
-    system_refusal(wanted, enable, code, information)
+    check_system(request.system)
 }
 
-// The refusal of a block call, 0 if it is accepted.
-fn refusal(
-    sender: Sender,
-    store: &[u8],
-    buf: &[u8],
-    n: usize,
-    u: usize,
-    wanted: bool,
-    enable: u8,
-    code: u8,
-    information: &[u8],
-) -> u8
-    ensures { result ≡ block_refusal sender store.now buf.now n u (system wanted enable code information.now) }
+// A block call is refused, or not.
+#[tactic(auto, unfolding(crate::specs::Blocks::block_refusal, packet::specs::Answers::answer_of, packet::specs::Answers::answered, packet::specs::Answers::refusal_of))]
+fn check(sender: &Sender, store: &[u8], buf: &[u8], request: &BlockRequest<'_>) -> Answer
+    ensures { result ≡ answer_of (block_refusal sender.now store.now buf.now request.now.n request.now.u (asked request.now.system)) }
 {
     if !sender.in_range() {
-        return 14;
+        return Err(Refusal::OutOfRange);
     }
-    later_refusal(store, buf, n, u, wanted, enable, code, information)
+    check_later(store, buf, request)
 }
 
 // A block that no refusal stops.
 pub fn write_block(
-    sender: Sender,
+    sender: &mut Sender,
     store: &[u8],
     buf: &mut [u8],
-    n: usize,
-    u: usize,
-    wanted: bool,
-    enable: u8,
-    code: u8,
-    information: &[u8],
-) -> Fill
-    requires { block_refusal sender store.now buf.old n u (system wanted enable code information.now) ≡ 0 }
-    ensures { BlockWritten sender store.now buf.old n u (system wanted enable code information.now) buf.new result }
+    request: &BlockRequest<'_>,
+) -> Block
+    requires { block_refusal sender.old store.now buf.old request.now.n request.now.u (asked request.now.system) ≡ 0 }
+    ensures { BlockWritten sender.old store.now buf.old request.now.n request.now.u (asked request.now.system) buf.new sender.new result }
 {
-    let opening = put_opening(buf, wanted, enable, code, information);
-    let mut s = sender;
-    s.enable = in_force(sender.enable, wanted, enable);
-    let f = fill(buf, s, store, opening, s.enable, u);
-    close(buf, f.at, n);
-    f
+    let opening = put_opening(buf, request.system);
+    let enable = in_force(sender.enable, request.system);
+    sender.enable = enable;
+    let block = fill(buf, sender, store, opening, request.u);
+    close(buf, block.used, request.n);
+    block
 }
 
-// A block of n bits, of which u may be used, made into the buffer from the messages in the store: a system packet, if one is wanted,
-// and the frames that are next. The system packet's enable bits are in force from then on.
+// A block made into the buffer from the messages in the store, as the request asks for it: a system packet, if one is wanted, and the frames that
+// are next. The system packet's enable bits are in force from then on.
 pub fn make_block(
-    sender: Sender,
+    sender: &mut Sender,
     store: &[u8],
     buf: &mut [u8],
-    n: usize,
-    u: usize,
-    wanted: bool,
-    enable: u8,
-    code: u8,
-    information: &[u8],
-) -> Making
-    ensures { BlockCalled sender store.now buf.old n u (system wanted enable code information.now) buf.new result }
+    request: &BlockRequest<'_>,
+) -> Result<Block, Refusal>
+    ensures { BlockCalled sender.old store.now buf.old request.now.n request.now.u (asked request.now.system) buf.new sender.new result }
 {
-    let number = refusal(sender, store, buf, n, u, wanted, enable, code, information);
-    if number != 0 {
-        return Making {
-            made: Made::Refused(number),
-            sender,
-        };
-    }
-    let f = write_block(sender, store, buf, n, u, wanted, enable, code, information);
-    let after = f.sender;
-    Making {
-        made: Made::Block {
-            placed: f.placed,
-            used: f.at,
-            zeros: f.zeros,
-        },
-        sender: after,
-    }
+    check(sender, store, buf, request)?;
+    let block = write_block(sender, store, buf, request);
+    Ok(block)
 }

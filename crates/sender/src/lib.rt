@@ -3,31 +3,26 @@
 
 pub mod blocks;
 
-use offering::Sender;
-
-// What filling a block leaves: the record, the bit behind the frames, how many there are, and the zeros that stuffing added in the block up to there.
+// A system packet: its enable bits, its code and its information.
 #[derive(Clone, Copy)]
-pub struct Fill {
-    pub sender: Sender,
-    pub at: usize,
+pub struct SystemPacket<'a> {
+    pub enable: u8,
+    pub code: u8,
+    pub information: &'a [u8],
+}
+
+// What a block call asks for: a block of n bits, of which u may be used, with a system packet or none.
+#[derive(Clone, Copy)]
+pub struct BlockRequest<'a> {
+    pub n: usize,
+    pub u: usize,
+    pub system: Option<SystemPacket<'a>>,
+}
+
+// The answer to a block call that is accepted: the frames placed, the bits used and the zeros that stuffing added among them.
+#[derive(Clone, Copy, Debug, PartialEq, Eq)]
+pub struct Block {
     pub placed: usize,
+    pub used: usize,
     pub zeros: usize,
-}
-
-// The answer to a block call: the frames placed, the bits used and the zeros that stuffing added among them, or the refusal's number.
-#[derive(Clone, Copy)]
-pub enum Made {
-    Block {
-        placed: usize,
-        used: usize,
-        zeros: usize,
-    },
-    Refused(u8),
-}
-
-// What making a block returns.
-#[derive(Clone, Copy)]
-pub struct Making {
-    pub made: Made,
-    pub sender: Sender,
 }

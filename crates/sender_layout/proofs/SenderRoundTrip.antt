@@ -3,17 +3,28 @@ use mathlib.Core.Path.{◌≡◌, refl}
 use Prim.Native.Nat.{ℕ, ◌+◌, ◌≤◌}
 use native.Mathlib.Omega.{arith}
 use mathlib.Core.List.{List, [], ◌∷◌, ◌++◌}
-use lib.ListN.{length, take}
+use lib.ListN.{length, take, get_or}
 use lib.Seq.{slice_empty}
 use Rattle.bits.specs.Bits.{Bytes}
 use Rattle.packet.specs.Lists.{AllAre}
 use Rattle.offering.specs.declared.Slot.{Slot}
 use Rattle.offering.specs.declared.Sender.{Sender}
+use Rattle.offering.specs.Record.{no_slot}
 use Rattle.layout.specs.Layout.{low_bytes, byte_at, number_at, circuit_bytes, circuit_from, circuits_bytes, circuits_in}
 use Rattle.sender_layout.specs.SenderBytes.{sender_length, slot_bytes, slot_in, slots_bytes, sender_bytes, sender_in}
 use Rattle.layout.specs.Fits.{Four}
 use Rattle.sender_layout.specs.Fits.{SenderSlotFits, SenderFits}
 use Rattle.layout.proofs.Parts.{byte_fits, number_fits, number_unpacks, number_packs, four_elements, circuits_unpack, circuits_fit, read_slice}
+
+-- four slots are the list of them
+pub four_slots : (ts : List Slot) → length ts ≡ 4 → {a b c d : Slot} → get_or ts 0 no_slot ≡ a → get_or ts 1 no_slot ≡ b → get_or ts 2 no_slot ≡ c
+    → get_or ts 3 no_slot ≡ d → ts ≡ a ∷ b ∷ c ∷ d ∷ []
+four_slots [] four e f g h = absurd (omega (arith, four))
+four_slots (a ∷ []) four e f g h = absurd (omega (arith, four))
+four_slots (a ∷ b ∷ []) four e f g h = absurd (omega (arith, four))
+four_slots (a ∷ b ∷ c ∷ []) four e f g h = absurd (omega (arith, four))
+four_slots (a ∷ b ∷ c ∷ d ∷ []) four e f g h = cc
+four_slots (a ∷ b ∷ c ∷ d ∷ x ∷ ts) four e f g h = absurd (omega (arith, four))
 
 -- ---- unpacking what was packed gives the record back
 

@@ -3,7 +3,7 @@
 use Prim.Native.Nat.{ℕ, ◌+◌, ◌-◌, ◌≤◌, ◌<◌}
 use mathlib.Core.Bool.{Bool, true, false, cond, ◌&&◌, and-false}
 use mathlib.Core.List.{List, [], ◌∷◌, ◌++◌, flatten, append_assoc, append-nil}
-use mathlib.Core.Option.{Option, none, some}
+use Rattle.std.specs.Prelude.{Option, None, Some}
 use mathlib.Core.Path.{◌≡◌, refl, sym, ap, ◌∙◌}
 use native.Mathlib.Numerals.{add-one}
 use native.Mathlib.Omega.{arith}
@@ -66,14 +66,14 @@ unescaped_text l zs =
 
 onto_all_snoc : (bs : List ℕ) (b : ℕ) (o : Option (List ℕ)) → onto_all bs (onto_bytes b o) ≡ onto_all (bs ++ b ∷ []) o
 unfolding onto_all onto_bytes
-onto_all_snoc bs b none = refl
-onto_all_snoc bs b (some cs) = ap some (sym (append_assoc bs (b ∷ []) cs))
+onto_all_snoc bs b None = refl
+onto_all_snoc bs b (Some cs) = ap Some (sym (append_assoc bs (b ∷ []) cs))
 
 -- more than 21 bytes give nothing, whatever follows
 given_long : (bs : List ℕ) (o : Option (List ℕ)) → 21 < length bs → given (onto_all bs o) ≡ []
 unfolding onto_all given
-given_long bs none h = refl
-given_long bs (some cs) h = rw (passing_long (bs ++ cs) (rw length-append (omega arith)))
+given_long bs None h = refl
+given_long bs (Some cs) h = rw (passing_long (bs ++ cs) (rw length-append (omega arith)))
 
 held_few : (l : Line) → l.count ≤ 21 → held l ≡ take l.count l.bytes
 unfolding held
@@ -167,7 +167,7 @@ packet-take n bytes h = rw (length-take-le n bytes h, take-take (n - 2) n bytes 
 
 module _ (l : Line) (long : length l.bytes ≡ 21) (inside : l.inside ≡ true) where
   -- a flag gives what is held, if it passes
-  few : l.escape ≡ false → l.count ≤ 21 → gives l flag ≡ given (onto_all (held l) (some []))
+  few : l.escape ≡ false → l.count ≤ 21 → gives l flag ≡ given (onto_all (held l) (Some []))
   unfolding gives is_flag onto_all given
   few e h =
       rw (
@@ -186,7 +186,7 @@ module _ (l : Line) (long : length l.bytes ≡ 21) (inside : l.inside ≡ true) 
       go false e true h = few e (leb-true l.count 21 h)
       go false e false h =
           let many : 21 < l.count = leb-false l.count 21 h in
-          gives_none l flag (passes_long l many) ∙ sym (given_long (held l) (some []) (rw (held_many l many, length-replicate) (omega arith)))
+          gives_none l flag (passes_long l many) ∙ sym (given_long (held l) (Some []) (rw (held_many l many, length-replicate) (omega arith)))
 
   -- a flag behind the text
   at_flag : (bs : List ℕ) → packets_in (stands_for l ++ flag ∷ bs) ≡ gives l flag ++ packets_in (flag ∷ bs)

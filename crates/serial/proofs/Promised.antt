@@ -2,7 +2,7 @@
 use Prim.Native.Nat.{ℕ}
 use mathlib.Core.Bool.{true, false, cond, xor, and-false}
 use mathlib.Core.List.{List, [], ◌∷◌, ◌++◌, flatten, append_assoc}
-use mathlib.Core.Option.{some}
+use Rattle.std.specs.Prelude.{Some}
 use mathlib.Core.Path.{◌≡◌, refl, sym, ap, ◌∙◌}
 use lib.ListN.{length}
 use Rattle.bits.specs.Bits.{odd, low_bits, byte_bits, bits_of}
@@ -21,7 +21,7 @@ use Rattle.serial.proofs.ReadCalls.{all_read_lem, first_read_lem, any-record, re
 
 -- ---- frames that are dropped, and those that are not
 
-module _ (xs bytes : List ℕ) (none : has_flag xs ≡ false) (is : unescaped xs ≡ some bytes) where
+module _ (xs bytes : List ℕ) (none : has_flag xs ≡ false) (is : unescaped xs ≡ Some bytes) where
   frame-given : packets_in (flag ∷ xs ++ flag ∷ []) ≡ cond (passing bytes) (packet bytes ∷ []) []
   unfolding given
   frame-given = packets_in-frame xs none ∙ rw is

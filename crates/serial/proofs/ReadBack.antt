@@ -11,7 +11,7 @@ use Rattle.bits.proofs.Lists.{sets_front}
 use Rattle.bits.proofs.Tests.{and_left, and_right}
 use Rattle.hdlc.specs.Frames.{with_fcs}
 use Rattle.hdlc.proofs.WithFcs.{length-with_fcs, packet-with_fcs, fcs_right-with_fcs}
-use Rattle.serial.specs.declared.Written.TheVariants.{Frame, Refused}
+use Rattle.packet.specs.Answers.{answered}
 use Rattle.serial.specs.Octets.{flag, escaped_bytes, line_frame, line_of, fits}
 use Rattle.serial.specs.Writing.{worst_case, write_answer, output_after, WriteCall, bytes_written, sent, packets_sent}
 use Rattle.serial.specs.Frames.{has_flag, pieces, between, unescaped_from, unescaped, passing, given, packets_in}
@@ -85,13 +85,13 @@ record Line_of (line : List ℕ) (ps : List (List ℕ)) : Type 0 where
   pub fit : all_fit ps ≡ true
 
 sent-line : (cs : List WriteCall) → Line_of (sent cs) (packets_sent cs)
-unfolding sent packets_sent write_answer output_after bytes_written line_of all_fit flatten
+unfolding sent packets_sent write_answer output_after bytes_written answered line_of all_fit flatten
 sent-line [] = record { is = refl; fit = refl }
 sent-line (c ∷ cs) =
     let rest = sent-line cs in
     write_cases c.packet c.output
     (λ n. Line_of
-    (bytes_written (cond (eqb n 0) (Frame (length (line_frame c.packet))) (Refused n)) (cond (eqb n 0) (sets c.output 0 (line_frame c.packet)) c.output) ++ sent cs)
+    (bytes_written (answered n (length (line_frame c.packet))) (cond (eqb n 0) (sets c.output 0 (line_frame c.packet)) c.output) ++ sent cs)
     (cond (eqb n 0) (c.packet ∷ packets_sent cs) (packets_sent cs)))
     (λ f h. record { is = rw (bytes-written c.packet c.output h, rest.is); fit = rw (f, rest.fit) })
     rest

@@ -5,16 +5,15 @@ use mathlib.Core.List.{List, [], ◌∷◌, ◌++◌, flatten, append_assoc}
 use mathlib.Core.Path.{◌≡◌, refl, sym, ap, ◌∙◌}
 use native.Mathlib.Nat.{add-zero, add-suc, suc-add, zero-add}
 use native.Mathlib.Omega.{arith}
-use borrow.Author.Tests.{ne_eqb}
 use lib.ListN.{length, take, drop, length-take, take-append-drop, length-drop, length-replicate}
 use lib.Seq.{take-take}
 use Rattle.serial.specs.declared.Line.{Line}
 use Rattle.serial.specs.declared.Reading.{Reading}
 use Rattle.serial.specs.Octets.{is_flag}
 use Rattle.serial.specs.Frames.{packets_in}
-use Rattle.serial.specs.Machine.{fresh, opened, step, passes, ended, stopped, read_on, reading, packet_given, packets_read, bytes_read, line_after}
+use Rattle.serial.specs.Machine.{fresh, opened, step, passes, ended, stopped, read_on, reading, packet_given, packet_of, packets_read, bytes_read, line_after}
 use Rattle.serial.specs.SerialLine.{calls_for, calls_over, stands_for}
-use Rattle.serial.proofs.Stepping.{step-flag, passes-least}
+use Rattle.serial.proofs.Stepping.{step-flag}
 use Rattle.serial.proofs.Giving.{gives, given_in, run, step_long, given_declared}
 
 -- ---- bytes in two parts
@@ -38,7 +37,7 @@ record Read (l : Line) (n : ℕ) (bs : List ℕ) (r : Reading) : Type 0 where
   pub all : packet_given r ≡ [] → k ≡ length bs
 
 reads_ended : (l : Line) (n : ℕ) → Read l n [] (ended l n)
-unfolding ended packet_given given_in run
+unfolding ended packet_given packet_of given_in run
 reads_ended l n =
     record {
       k = 0;
@@ -53,10 +52,9 @@ reads_ended l n =
 module _ (l : Line) (n : ℕ) (b : ℕ) (bs : List ℕ) where
   -- the byte is a flag that gives a packet
   reads_stopped : is_flag b ≡ true → passes l ≡ true → Read l n (b ∷ bs) (stopped l (suc n))
-  unfolding stopped packet_given given_in run gives
+  unfolding stopped packet_given packet_of given_in run gives
   reads_stopped f h =
-      let some : l.count - 2 ≡ 0 → ⊥ = λ e. omega (arith, passes-least l h) in
-      let one : packet_given (stopped l (suc n)) ≡ take (l.count - 2) l.bytes ∷ [] = rw (ne_eqb (l.count - 2) 0 some) in
+      let one : packet_given (stopped l (suc n)) ≡ take (l.count - 2) l.bytes ∷ [] = refl in
       record {
         k = 1;
         read = omega arith;

@@ -1,11 +1,12 @@
 -- What the functions' proofs cite, on plain values: the steps of a reader, whether a flag gives a packet, and turns of reading.
 use Prim.Native.Nat.{ℕ, suc, ◌+◌, ◌-◌, ◌*◌, ◌≤◌, ◌<◌}
 use mathlib.Core.Bool.{Bool, true, false, cond, not, ◌&&◌, and-true, and-false, false≢true}
+use Rattle.std.specs.Prelude.{Option, None, Some}
 use mathlib.Core.List.{List, [], ◌∷◌}
 use mathlib.Core.Path.{◌≡◌, refl, sym, ◌∙◌}
 use native.Mathlib.Numerals.{add-one}
 use native.Mathlib.Omega.{arith}
-use borrow.Author.Tests.{le-leb, lt-leb, leb-true, leb-false}
+use borrow.Author.Tests.{eq-eqb, ne_eqb, le-leb, lt-leb, leb-true, leb-false}
 use lib.ListN.{length, take, drop, get_or, length-take, drop_of_length-le}
 use lib.Seq.{length-take-le, drop-cons}
 use lib.Dec.{eqb, leb}
@@ -16,7 +17,7 @@ use Rattle.serial.specs.declared.Line.{Line}
 use Rattle.serial.specs.declared.Reading.{Reading}
 use Rattle.serial.specs.Octets.{is_flag, is_escape, toggled, fits}
 use Rattle.serial.specs.Frames.{passing}
-use Rattle.serial.specs.Machine.{opened, keep, taken, step, passes, ended, stopped, read_on, reading}
+use Rattle.serial.specs.Machine.{opened, keep, taken, step, passes, ended, stopped, read_on, reading, length_given}
 
 -- ---- steps
 
@@ -103,21 +104,29 @@ module _ (l : Line) where
     passes-held h = rw (inside, plain, le-leb l.count 21 h)
 
     -- a packet of the right length is given exactly if its FCS is right
-    pub passes-fcs : (r : ℕ) → 4 ≤ l.count → l.count ≤ 21 → length l.bytes ≡ 21 → r ≡ fcs_of (take (l.count - 2) l.bytes)
-        → passes l ≡ eqb (get_or l.bytes (l.count - 2) 0 + 256 * get_or l.bytes (l.count - 2 + 1) 0) r
-    unfolding passing fits
-    passes-fcs r lo hi long is =
-        let there : l.count ≤ length l.bytes = omega arith in
-        passes-held hi
-        ∙ rw (
-          length-packet,
-          length-take-le l.count l.bytes there,
-          le-leb 2 (l.count - 2) (omega arith),
-          le-leb (l.count - 2) 19 (omega arith),
-          fcs_right-take l.count l.bytes (omega arith) there,
-          ← is,
-        )
-        (and-true (eqb (get_or l.bytes (l.count - 2) 0 + 256 * get_or l.bytes (l.count - 2 + 1) 0) r))
+    module _ (r : ℕ) (lo : 4 ≤ l.count) (hi : l.count ≤ 21) (long : length l.bytes ≡ 21) (is : r ≡ fcs_of (take (l.count - 2) l.bytes)) where
+      passes-fcs : passes l ≡ eqb (get_or l.bytes (l.count - 2) 0 + 256 * get_or l.bytes (l.count - 2 + 1) 0) r
+      unfolding passing fits
+      passes-fcs =
+          let there : l.count ≤ length l.bytes = omega arith in
+          passes-held hi
+          ∙ rw (
+            length-packet,
+            length-take-le l.count l.bytes there,
+            le-leb 2 (l.count - 2) (omega arith),
+            le-leb (l.count - 2) 19 (omega arith),
+            fcs_right-take l.count l.bytes (omega arith) there,
+            ← is,
+          )
+          (and-true (eqb (get_or l.bytes (l.count - 2) 0 + 256 * get_or l.bytes (l.count - 2 + 1) 0) r))
+
+      pub packet-right : get_or l.bytes (l.count - 2) 0 + 256 * get_or l.bytes (l.count - 2 + 1) 0 ≡ r
+          → Some (l.count - 2) ≡ cond (passes l) (Some (l.count - 2)) None
+      packet-right e = rw (passes-fcs, eq-eqb _ _ e)
+
+      pub packet-wrong : (get_or l.bytes (l.count - 2) 0 + 256 * get_or l.bytes (l.count - 2 + 1) 0 ≡ r → ⊥)
+          → None ≡ cond (passes l) (Some (l.count - 2)) None
+      packet-wrong e = rw (passes-fcs, ne_eqb _ _ e)
 
 -- ---- one turn of reading
 
@@ -133,44 +142,46 @@ module _ (l : Line) (bs : List ℕ) (at : ℕ) (h : at < length bs) where
       → read_on r (at + 1) (drop (at + 1) bs) ≡ read_on l at (drop at bs)
   read_plain r f s = rw (read_cons, f, s)
 
-  -- it is a flag, and n is the length of the packet that it gives, or 0
-  module _ (n : ℕ) (f : is_flag (get_or bs at 0) ≡ true) (is : n ≡ cond (passes l) (l.count - 2) 0) where
-    pub read_none : (r : Line) → n ≡ 0 → r ≡ step l (get_or bs at 0) → read_on r (at + 1) (drop (at + 1) bs) ≡ read_on l at (drop at bs)
-    read_none r z s = sym (read_cons ∙ rw f (go (passes l) refl (sym is ∙ z)))
+  -- it is a flag, and p is the length of the packet that it gives, if it gives one
+  module _ (p : Option ℕ) (f : is_flag (get_or bs at 0) ≡ true) (is : p ≡ cond (passes l) (Some (l.count - 2)) None) where
+    pub read_none : (r : Line) → p ≡ None → r ≡ step l (get_or bs at 0) → read_on r (at + 1) (drop (at + 1) bs) ≡ read_on l at (drop at bs)
+    read_none r z s = sym (read_cons ∙ rw f (go (passes l) (sym is ∙ z)))
       where
-        go : (t : Bool) → passes l ≡ t → cond t (l.count - 2) 0 ≡ 0
+        go : (t : Bool) → cond t (Some (l.count - 2)) None ≡ None
             → cond t (stopped l (at + 1)) (read_on (step l (get_or bs at 0)) (at + 1) (drop (at + 1) bs)) ≡ read_on r (at + 1) (drop (at + 1) bs)
-        go true e q = absurd (omega (arith, passes-least l e))
-        go false e q = rw s
+        go true q = cc
+        go false q = rw s
 
-    pub read-packet : (n ≡ 0 → ⊥) → (r : Line) → r ≡ opened → record { line = r; read = at + 1; length = n; frame = l.bytes } ≡ read_on l at (drop at bs)
+    pub read-packet : (n : ℕ) → p ≡ Some n → (r : Line) → r ≡ opened → record { line = r; read = at + 1; packet = Some n; frame = l.bytes } ≡ read_on l at (drop at bs)
     unfolding stopped
-    read-packet some r o = sym (read_cons ∙ rw f (go (passes l) (sym is)))
+    read-packet n some r o = sym (read_cons ∙ rw f (go (passes l) (sym is ∙ some)))
       where
-        go : (t : Bool) → cond t (l.count - 2) 0 ≡ n
+        go : (t : Bool) → cond t (Some (l.count - 2)) None ≡ Some n
             → cond t (stopped l (at + 1)) (read_on (step l (get_or bs at 0)) (at + 1) (drop (at + 1) bs))
-            ≡ record { line = r; read = at + 1; length = n; frame = l.bytes }
-        go true e = rw (o, ← e)
-        go false e = absurd (some (sym e))
+            ≡ record { line = r; read = at + 1; packet = Some n; frame = l.bytes }
+        go true e = let same : l.count - 2 ≡ n = cc in rw (o, ← same)
+        go false e = cc
 
 -- no byte is left
-pub read_end : (l r : Line) (bs : List ℕ) (at : ℕ) → length bs ≤ at → r ≡ l → ended r at ≡ read_on l at (drop at bs)
+pub read_end : (l : Line) (bs : List ℕ) (at : ℕ) → length bs ≡ at → ended l (length bs) ≡ read_on l at (drop at bs)
 unfolding read_on
-read_end l r bs at h e = rw (drop_of_length-le bs h, e)
+read_end l bs at h =
+    let all : length bs ≤ at = omega arith in
+    rw (drop_of_length-le bs all, h)
 
 -- ---- the packet of a reading call
 
-read_length : (l : Line) (n : ℕ) (bs : List ℕ) → (read_on l n bs).length ≤ 19
-unfolding read_on ended stopped
+read_length : (l : Line) (n : ℕ) (bs : List ℕ) → length_given (read_on l n bs) ≤ 19
+unfolding read_on ended stopped length_given
 read_length l n [] = omega arith
 read_length l n (b ∷ bs) = go (is_flag b) (passes l) refl (read_length (step l b) (suc n) bs)
   where
-    go : (s t : Bool) → passes l ≡ t → (read_on (step l b) (suc n) bs).length ≤ 19
-        → (cond {A = Reading} (s && t) (stopped l (suc n)) (read_on (step l b) (suc n) bs)).length ≤ 19
+    go : (s t : Bool) → passes l ≡ t → length_given (read_on (step l b) (suc n) bs) ≤ 19
+        → length_given (cond {A = Reading} (s && t) (stopped l (suc n)) (read_on (step l b) (suc n) bs)) ≤ 19
     go true true e h = omega (arith, passes-most l e)
     go true false e h = h
     go false t e h = h
 
-pub reading-length : (l : Line) (bs : List ℕ) → (reading l bs).length ≤ 19
+pub reading-length : (l : Line) (bs : List ℕ) → length_given (reading l bs) ≤ 19
 unfolding reading
 reading-length l bs = read_length l 0 bs

@@ -2,7 +2,7 @@
 use Prim.Native.Nat.{ℕ}
 use mathlib.Core.Bool.{Bool, true, false, cond, ◌||◌}
 use mathlib.Core.List.{List, [], ◌∷◌, ◌++◌, flatten, append_assoc, append-nil}
-use mathlib.Core.Option.{Option, none, some, none-ne-some}
+use Rattle.std.specs.Prelude.{Option, None, Some}
 use mathlib.Core.Path.{◌≡◌, refl, sym, ap, ◌∙◌}
 use borrow.Author.Tests.{eqb-true}
 use mathlib.Core.Logic.{◌⊎◌, inl, inr}
@@ -43,18 +43,18 @@ unescaped-escaped b rest =
 
 -- bytes before what is unescaped, where it is
 unfoldable pub onto_all : List ℕ → Option (List ℕ) → Option (List ℕ)
-onto_all bs none = none
-onto_all bs (some cs) = some (bs ++ cs)
+onto_all bs None = None
+onto_all bs (Some cs) = Some (bs ++ cs)
 
 onto_all_cons : (b : ℕ) (bs : List ℕ) (o : Option (List ℕ)) → onto_bytes b (onto_all bs o) ≡ onto_all (b ∷ bs) o
 unfolding onto_bytes onto_all
-onto_all_cons b bs none = refl
-onto_all_cons b bs (some cs) = refl
+onto_all_cons b bs None = refl
+onto_all_cons b bs (Some cs) = refl
 
 onto_all_nil : (o : Option (List ℕ)) → o ≡ onto_all [] o
 unfolding onto_all
-onto_all_nil none = refl
-onto_all_nil (some cs) = refl
+onto_all_nil None = refl
+onto_all_nil (Some cs) = refl
 
 pub unescaped-behind : (bs rest : List ℕ) → unescaped (escaped_bytes bs ++ rest) ≡ onto_all bs (unescaped rest)
 unfolding unescaped escaped_bytes flatten
@@ -63,7 +63,7 @@ unescaped-behind (b ∷ bs) rest =
     rw (append_assoc (escaped b) (escaped_bytes bs) rest)
     (unescaped-escaped b (escaped_bytes bs ++ rest) ∙ ap (onto_bytes b) (unescaped-behind bs rest) ∙ onto_all_cons b bs (unescaped_from rest false))
 
-pub unescaped-escaped_bytes : (bs : List ℕ) → unescaped (escaped_bytes bs) ≡ some bs
+pub unescaped-escaped_bytes : (bs : List ℕ) → unescaped (escaped_bytes bs) ≡ Some bs
 unfolding unescaped unescaped_from onto_all
 unescaped-escaped_bytes bs =
     ap unescaped (sym (append-nil (escaped_bytes bs)))
@@ -75,8 +75,8 @@ unescaped-escaped_bytes bs =
 -- bytes are unescaped, or bytes that are and an escape behind them, where `true` says that an escape stands before them
 abbrev Ends : Bool → List ℕ → Type 0
 Ends t xs =
-    ((bytes : List ℕ) × (unescaped_from xs t ≡ some bytes))
-    ⊎ ((ys : List ℕ) × (bytes : List ℕ) × (xs ≡ ys ++ escape ∷ []) × (unescaped_from ys t ≡ some bytes))
+    ((bytes : List ℕ) × (unescaped_from xs t ≡ Some bytes))
+    ⊎ ((ys : List ℕ) × (bytes : List ℕ) × (xs ≡ ys ++ escape ∷ []) × (unescaped_from ys t ≡ Some bytes))
 
 Ends_cons : (s t : Bool) (x b : ℕ) (xs : List ℕ) → ((zs : List ℕ) → unescaped_from (x ∷ zs) s ≡ onto_bytes b (unescaped_from zs t)) → Ends t xs → Ends s (x ∷ xs)
 unfolding onto_bytes
@@ -106,27 +106,27 @@ pub unescapes : (xs : List ℕ) → Ends false xs
 unescapes xs = (unescapes_from xs).0
 
 -- an escape behind bytes that are unescaped has none behind it
-onto_bytes_some : (b : ℕ) (o : Option (List ℕ)) (bytes : List ℕ) → onto_bytes b o ≡ some bytes → (cs : List ℕ) × (o ≡ some cs)
+onto_bytes_some : (b : ℕ) (o : Option (List ℕ)) (bytes : List ℕ) → onto_bytes b o ≡ Some bytes → (cs : List ℕ) × (o ≡ Some cs)
 unfolding onto_bytes
-onto_bytes_some b none bytes e = absurd (none-ne-some bytes e)
-onto_bytes_some b (some cs) bytes e = (cs, refl)
+onto_bytes_some b None bytes e = cc
+onto_bytes_some b (Some cs) bytes e = (cs, refl)
 
-escape_left : (xs : List ℕ) (t : Bool) (bytes : List ℕ) → unescaped_from xs t ≡ some bytes → unescaped_from (xs ++ escape ∷ []) t ≡ none
+escape_left : (xs : List ℕ) (t : Bool) (bytes : List ℕ) → unescaped_from xs t ≡ Some bytes → unescaped_from (xs ++ escape ∷ []) t ≡ None
 unfolding unescaped_from is_escape onto_bytes
-escape_left [] true bytes e = absurd (none-ne-some bytes e)
+escape_left [] true bytes e = cc
 escape_left [] false bytes e = refl
 escape_left (x ∷ xs) true bytes e =
     let w = onto_bytes_some (toggled x) (unescaped_from xs false) bytes e in
     rw (escape_left xs false w.0 w.1)
 escape_left (x ∷ xs) false bytes e = go (is_escape x) e (escape_left xs true bytes) (escape_left xs false)
   where
-    go : (t : Bool) → cond t (unescaped_from xs true) (onto_bytes x (unescaped_from xs false)) ≡ some bytes
-        → (unescaped_from xs true ≡ some bytes → unescaped_from (xs ++ escape ∷ []) true ≡ none)
-        → ((cs : List ℕ) → unescaped_from xs false ≡ some cs → unescaped_from (xs ++ escape ∷ []) false ≡ none)
-        → cond t (unescaped_from (xs ++ escape ∷ []) true) (onto_bytes x (unescaped_from (xs ++ escape ∷ []) false)) ≡ none
+    go : (t : Bool) → cond t (unescaped_from xs true) (onto_bytes x (unescaped_from xs false)) ≡ Some bytes
+        → (unescaped_from xs true ≡ Some bytes → unescaped_from (xs ++ escape ∷ []) true ≡ None)
+        → ((cs : List ℕ) → unescaped_from xs false ≡ Some cs → unescaped_from (xs ++ escape ∷ []) false ≡ None)
+        → cond t (unescaped_from (xs ++ escape ∷ []) true) (onto_bytes x (unescaped_from (xs ++ escape ∷ []) false)) ≡ None
     go true h behind plain-behind = behind h
     go false h behind plain-behind = let w = onto_bytes_some x (unescaped_from xs false) bytes h in rw (plain-behind w.0 w.1)
 
-pub unescaped-escape : (xs bytes : List ℕ) → unescaped xs ≡ some bytes → unescaped (xs ++ escape ∷ []) ≡ none
+pub unescaped-escape : (xs bytes : List ℕ) → unescaped xs ≡ Some bytes → unescaped (xs ++ escape ∷ []) ≡ None
 unfolding unescaped
 unescaped-escape xs bytes e = escape_left xs false bytes e

@@ -8,7 +8,9 @@ use borrow.Author.Tests.{le-leb, lt-leb, leb-true}
 use lib.ListN.{length}
 use lib.Seq.{sets}
 use lib.Dec.{leb}
-use Rattle.serial.specs.declared.Written.TheVariants.{Frame, Refused}
+use Rattle.std.specs.Prelude.{Ok, Err}
+use Rattle.packet.specs.declared.Refusal.TheVariants.{ShortOutput, WrongPacket}
+use Rattle.packet.specs.Answers.{refusal_of, answered}
 use Rattle.serial.specs.Octets.{fits, line_frame}
 use Rattle.serial.specs.Writing.{worst_case, write_refusal, write_answer, output_after}
 
@@ -17,15 +19,15 @@ unfolding fits
 fits_in p lo hi = rw (le-leb 2 (length p) lo, le-leb (length p) 19 hi)
 
 module _ (p output : List ℕ) where
-  refused : fits p ≡ false → (Refused 17 ≡ write_answer p output) × (output ≡ output_after p output)
-  unfolding write_answer output_after write_refusal
+  refused : fits p ≡ false → (Err WrongPacket ≡ write_answer p output) × (output ≡ output_after p output)
+  unfolding write_answer output_after write_refusal answered refusal_of
   refused e = (rw e, rw e)
 
-  pub packet_few : length p < 2 → (Refused 17 ≡ write_answer p output) × (output ≡ output_after p output)
+  pub packet_few : length p < 2 → (Err WrongPacket ≡ write_answer p output) × (output ≡ output_after p output)
   unfolding fits
   packet_few h = refused (rw (lt-leb 2 (length p) h))
 
-  pub packet_many : 19 < length p → (Refused 17 ≡ write_answer p output) × (output ≡ output_after p output)
+  pub packet_many : 19 < length p → (Err WrongPacket ≡ write_answer p output) × (output ≡ output_after p output)
   unfolding fits
   packet_many h = refused (rw (le-leb 2 (length p) (omega arith), lt-leb (length p) 19 h))
 
@@ -36,13 +38,13 @@ module _ (p output : List ℕ) where
         ap (λ (t : Bool). cond t (cond (leb (worst_case p) (length output)) 0 16) 17) (fits_in p lo hi)
         ∙ ap (λ (t : Bool). cond t 0 16) (lt-leb (2 * (length p + 2) + 2) (length output) h)
 
-    pub output_short : length output < 2 * (length p + 2) + 2 → (Refused 16 ≡ write_answer p output) × (output ≡ output_after p output)
-    unfolding write_answer output_after
+    pub output_short : length output < 2 * (length p + 2) + 2 → (Err ShortOutput ≡ write_answer p output) × (output ≡ output_after p output)
+    unfolding write_answer output_after answered refusal_of
     output_short h = (rw (short_refused h), rw (short_refused h))
 
     pub accepted : (n : ℕ) (new : List ℕ) → 2 * (length p + 2) + 2 ≤ length output → n ≡ length (line_frame p) → new ≡ sets output 0 (line_frame p)
-        → (Frame n ≡ write_answer p output) × (new ≡ output_after p output)
-    unfolding write_answer output_after write_refusal worst_case
+        → (Ok n ≡ write_answer p output) × (new ≡ output_after p output)
+    unfolding write_answer output_after write_refusal worst_case answered
     accepted n new h k e =
         let long = le-leb (2 * (length p + 2) + 2) (length output) h in
         (rw (fits_in p lo hi, long, k), rw (fits_in p lo hi, long, e))

@@ -1,7 +1,6 @@
 -- Frames in any bytes, and the packets that they give (document 02, ask 3): the line is split at its flags.
-use Rattle.std.specs.Prelude.{ℕ, Bool, true, false, cond, ◌&&◌, ◌||◌, drop}
+use Rattle.std.specs.Prelude.{ℕ, Option, None, Some, Bool, true, false, cond, ◌&&◌, ◌||◌, drop}
 use mathlib.Core.List.{List, [], ◌∷◌, map, flatten, drop_last}
-use Rattle.std.proofs.Math.Option.{Option, none, some}
 use Rattle.hdlc.specs.Bodies.{fcs_right, packet}
 use Rattle.serial.specs.Octets.{is_flag, is_escape, toggled, fits}
 
@@ -24,13 +23,13 @@ unfoldable pub between : List ℕ → List (List ℕ)
 between line = drop_last (drop 1 (pieces line))
 
 unfoldable pub onto_bytes : ℕ → Option (List ℕ) → Option (List ℕ)
-onto_bytes b none = none
-onto_bytes b (some bytes) = some (b ∷ bytes)
+onto_bytes b None = None
+onto_bytes b (Some bytes) = Some (b ∷ bytes)
 
 -- the bytes without their escapes, where `true` says that an escape stands right before them; none where an escape "is followed by a flag", which ends them
 unfoldable pub unescaped_from : List ℕ → Bool → Option (List ℕ)
-unescaped_from [] true = none
-unescaped_from [] false = some []
+unescaped_from [] true = None
+unescaped_from [] false = Some []
 unescaped_from (b ∷ bs) true = onto_bytes (toggled b) (unescaped_from bs false)
 unescaped_from (b ∷ bs) false = cond (is_escape b) (unescaped_from bs true) (onto_bytes b (unescaped_from bs false))
 
@@ -43,8 +42,8 @@ passing bytes = fcs_right bytes && fits (packet bytes)
 
 -- the packet of a frame, where it is not dropped: one or none
 unfoldable pub given : Option (List ℕ) → List (List ℕ)
-given none = []
-given (some bytes) = cond (passing bytes) (packet bytes ∷ []) []
+given None = []
+given (Some bytes) = cond (passing bytes) (packet bytes ∷ []) []
 
 -- the packets in a line
 unfoldable pub packets_in : List ℕ → List (List ℕ)

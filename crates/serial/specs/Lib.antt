@@ -4,5 +4,4 @@ pub mod Octets
 pub mod Writing
 pub mod Frames
 pub mod Machine
-pub mod Heads
 pub mod SerialLine

@@ -1,7 +1,7 @@
 -- The reader's machine: what is kept between two bytes of a line, so that it may be cut at any byte. `inside` says that a flag is read, `escape` that an escape
 -- is read behind it and the byte that it escapes is not, `count` how many bytes stand behind the last flag, escapes taken away, or is 22 for more than 21;
 -- `bytes` holds these, and is 0 where there is none. Every other value of the record is taken too: any count above 21 says that there are more.
-use Rattle.std.specs.Prelude.{ℕ, suc, ◌+◌, ◌-◌, Bool, true, false, cond, not, ◌&&◌, List, [], ◌∷◌, ◌++◌, take, replicate, set, leb, ltb, eqb}
+use Rattle.std.specs.Prelude.{ℕ, suc, Option, None, Some, unwrap_or, ◌+◌, ◌-◌, Bool, true, false, cond, not, ◌&&◌, List, [], ◌∷◌, ◌++◌, take, replicate, set, leb, ltb}
 use Rattle.serial.specs.declared.Line.{Line}
 use Rattle.serial.specs.declared.Reading.{Reading}
 use Rattle.serial.specs.Octets.{is_flag, is_escape, toggled}
@@ -40,11 +40,11 @@ passes l = l.inside && not l.escape && leb l.count 21 && passing (take l.count l
 
 -- the end of the bytes: all n are read, and there is no packet
 unfoldable pub ended : Line → ℕ → Reading
-ended l n = record { line = l; read = n; length = 0; frame = replicate 21 0 }
+ended l n = record { line = l; read = n; packet = None; frame = replicate 21 0 }
 
--- a flag, the last of n bytes read, gives a packet: it has `length` bytes and begins `frame`
+-- a flag, the last of n bytes read, gives a packet: it has so many bytes and begins `frame`
 unfoldable pub stopped : Line → ℕ → Reading
-stopped l n = record { line = opened; read = n; length = l.count - 2; frame = l.bytes }
+stopped l n = record { line = opened; read = n; packet = Some (l.count - 2); frame = l.bytes }
 
 -- bytes read, when n are read already, up to the flag that gives a packet
 unfoldable pub read_on : Line → ℕ → List ℕ → Reading
@@ -55,8 +55,16 @@ unfoldable pub reading : Line → List ℕ → Reading
 reading l bs = read_on l 0 bs
 
 -- the packet that an answer has, one or none
+unfoldable pub packet_of : Option ℕ → List ℕ → List (List ℕ)
+packet_of None frame = []
+packet_of (Some n) frame = take n frame ∷ []
+
 unfoldable pub packet_given : Reading → List (List ℕ)
-packet_given r = cond (eqb r.length 0) [] (take r.length r.frame ∷ [])
+packet_given r = packet_of r.packet r.frame
+
+-- its length, 0 where there is none
+unfoldable pub length_given : Reading → ℕ
+length_given r = unwrap_or r.packet 0
 
 -- ---- lists of reading calls, each lent some bytes, from one record on
 

@@ -1,8 +1,7 @@
 -- What is promised of the serial line (document 02, ask 3): of reading what was written, of reading any bytes, of a reader whose line is cut anywhere, and
 -- of the worst case. Nothing is assumed of the bytes of a line.
-use Rattle.std.specs.Prelude.{ℕ, zero, suc, ◌≤◌, ◌<◌, Bool, true, false, cond, ◌&&◌, ◌⊎◌, ◌≡◌, length, take, drop, replicate, leb}
+use Rattle.std.specs.Prelude.{ℕ, Some, zero, suc, ◌≤◌, ◌<◌, Bool, true, false, cond, ◌&&◌, ◌⊎◌, ◌≡◌, length, take, drop, replicate, leb}
 use mathlib.Core.List.{List, [], ◌∷◌, ◌++◌, flatten}
-use Rattle.std.proofs.Math.Option.{some}
 use Rattle.hdlc.specs.Bodies.{fcs_right, packet}
 use Rattle.serial.specs.declared.Line.{Line}
 use Rattle.serial.specs.Octets.{flag, escape, escaped_bytes, line_frame, line_of, fits}
@@ -57,14 +56,14 @@ pub record SerialLine : Type 0 where
   pub two_flags : (ys : List ℕ) → packets_in (flag ∷ flag ∷ ys) ≡ packets_in (flag ∷ ys)
   -- "A reader drops a frame whose FCS is wrong, whose packet is outside 2 to 19 bytes, or whose escape is followed by a flag", and no other: of the bytes xs
   -- between two flags
-  pub wrong_fcs : (xs bytes : List ℕ) → has_flag xs ≡ false → unescaped xs ≡ some bytes → fcs_right bytes ≡ false → packets_in (flag ∷ xs ++ flag ∷ []) ≡ []
-  pub outside : (xs bytes : List ℕ) → has_flag xs ≡ false → unescaped xs ≡ some bytes → fits (packet bytes) ≡ false → packets_in (flag ∷ xs ++ flag ∷ []) ≡ []
-  pub escape_then_flag : (xs bytes : List ℕ) → has_flag xs ≡ false → unescaped xs ≡ some bytes → packets_in (flag ∷ xs ++ escape ∷ flag ∷ []) ≡ []
-  pub no_other : (xs bytes : List ℕ) → has_flag xs ≡ false → unescaped xs ≡ some bytes → fcs_right bytes ≡ true → fits (packet bytes) ≡ true
+  pub wrong_fcs : (xs bytes : List ℕ) → has_flag xs ≡ false → unescaped xs ≡ Some bytes → fcs_right bytes ≡ false → packets_in (flag ∷ xs ++ flag ∷ []) ≡ []
+  pub outside : (xs bytes : List ℕ) → has_flag xs ≡ false → unescaped xs ≡ Some bytes → fits (packet bytes) ≡ false → packets_in (flag ∷ xs ++ flag ∷ []) ≡ []
+  pub escape_then_flag : (xs bytes : List ℕ) → has_flag xs ≡ false → unescaped xs ≡ Some bytes → packets_in (flag ∷ xs ++ escape ∷ flag ∷ []) ≡ []
+  pub no_other : (xs bytes : List ℕ) → has_flag xs ≡ false → unescaped xs ≡ Some bytes → fcs_right bytes ≡ true → fits (packet bytes) ≡ true
       → packets_in (flag ∷ xs ++ flag ∷ []) ≡ packet bytes ∷ []
   -- all bytes are unescaped, or are such bytes and an escape behind them
-  pub unescapes : (xs : List ℕ) → ((bytes : List ℕ) × (unescaped xs ≡ some bytes))
-      ⊎ ((ys bytes : List ℕ) × (xs ≡ ys ++ escape ∷ []) × (unescaped ys ≡ some bytes))
+  pub unescapes : (xs : List ℕ) → ((bytes : List ℕ) × (unescaped xs ≡ Some bytes))
+      ⊎ ((ys bytes : List ℕ) × (xs ≡ ys ++ escape ∷ []) × (unescaped ys ≡ Some bytes))
   -- the reader finds what is declared, however the line is cut
   pub cuts : (chunks : List (List ℕ)) → packets_read fresh (calls_over fresh chunks) ≡ packets_in (flatten chunks)
   -- and whatever its calls are lent: in the bytes that they read

@@ -1,8 +1,8 @@
 -- What writing one packet answers, and what it leaves in the output (document 02, ask 3).
-use Rattle.std.specs.Prelude.{ℕ, ◌+◌, ◌*◌, cond, List, [], ◌∷◌, ◌++◌, length, take, leb, eqb}
+use Rattle.std.specs.Prelude.{ℕ, ◌+◌, ◌*◌, cond, Result, Ok, Err, List, [], ◌∷◌, ◌++◌, length, take, leb, eqb}
 use Rattle.std.proofs.lemmas.List.Edits.{sets}
-use Rattle.serial.specs.declared.Written.{Written}
-use Rattle.serial.specs.declared.Written.TheVariants.{Frame, Refused}
+use Rattle.packet.specs.declared.Refusal.{Refusal}
+use Rattle.packet.specs.Answers.{answered}
 use Rattle.serial.specs.Octets.{fits, line_frame}
 
 -- "the worst case, 2 bytes for each packet and FCS byte plus 2 flags"
@@ -14,8 +14,8 @@ unfoldable pub write_refusal : List ℕ → List ℕ → ℕ
 write_refusal p output = cond (fits p) (cond (leb (worst_case p) (length output)) 0 16) 17
 
 -- the answer: how many bytes are written, or the refusal
-unfoldable pub write_answer : List ℕ → List ℕ → Written
-write_answer p output = let n = write_refusal p output in cond (eqb n 0) (Frame (length (line_frame p))) (Refused n)
+unfoldable pub write_answer : List ℕ → List ℕ → Result ℕ Refusal
+write_answer p output = answered (write_refusal p output) (length (line_frame p))
 
 -- the output then: "bytes behind those written keep their values"
 unfoldable pub output_after : List ℕ → List ℕ → List ℕ
@@ -29,9 +29,9 @@ pub record WriteCall : Type 0 where
   pub output : List ℕ
 
 -- the bytes that an answer says are written
-unfoldable pub bytes_written : Written → List ℕ → List ℕ
-bytes_written (Frame n) output = take n output
-bytes_written (Refused k) output = []
+unfoldable pub bytes_written : Result ℕ Refusal → List ℕ → List ℕ
+bytes_written (Ok n) output = take n output
+bytes_written (Err k) output = []
 
 -- what calls put on the line: each the bytes that it wrote
 unfoldable pub sent : List WriteCall → List ℕ

@@ -1,8 +1,7 @@
 // Octet-stuffed frames on a serial line (RFC 1662): one packet written, and a line read back byte by byte, cut anywhere.
 #![tactic(auto)]
 
-ghost use Rattle.std.specs.Prelude.{◌≡◌, cond, ◌-◌};
-ghost use Rattle.serial.specs.Heads.{joined};
+ghost use Rattle.std.specs.Prelude.{◌≡◌, cond, ◌-◌, Some, None};
 ghost use Rattle.serial.specs.Machine as machine;
 ghost use Rattle.serial.specs.SerialLine.{SerialLine};
 
@@ -13,14 +12,8 @@ pub const FLAG: u8 = 0x7e;
 
 pub const ESCAPE: u8 = 0x7d;
 
-// What a writing call answers: the frame is written and has so many bytes, or the number of the refusal.
-#[derive(Clone, Copy)]
-pub enum Written {
-    Frame(usize),
-    Refused(u8),
-}
-
 // What a reader keeps between two bytes (specs/Machine.antt has the meaning of each field).
+// Stays: (a) two flags, and a count beside fixed memory: a record lent by C holds any number as its count, `line_packs` of serial_layout gives back each byte of a record, and `any_record` of `SerialLine` speaks of all records.
 #[derive(Clone, Copy)]
 pub struct Line {
     pub inside: bool,
@@ -29,101 +22,19 @@ pub struct Line {
     pub bytes: [u8; 21],
 }
 
-// What a reading call answers: the record behind the bytes read, how many these are, and the packet, which begins `frame`; its length is 0 where there is none.
+// What a reading call answers: the record behind the bytes read, how many these are, and the length of the packet, if there is one; it begins `frame`.
+// Stays: (a) an array: no heap; `packet` has the length of what stands in it.
 #[derive(Clone, Copy)]
 pub struct Reading {
     pub line: Line,
     pub read: usize,
-    pub length: usize,
+    pub packet: Option<usize>,
     pub frame: [u8; 21],
-}
-
-// The numbers of a record without its bytes, which reading changes in place.
-#[derive(Clone, Copy)]
-struct Head {
-    inside: bool,
-    escape: bool,
-    count: u8,
-}
-
-impl Head {
-    // The record of this head and these bytes.
-    fn line(self, bytes: [u8; 21]) -> Line
-        ensures { result ≡ joined self bytes }
-    {
-        Line {
-            inside: self.inside,
-            escape: self.escape,
-            count: self.count,
-            bytes: bytes,
-        }
-    }
-
-    // Behind a flag.
-    fn opened(bytes: &mut [u8; 21]) -> Head
-        ensures { joined result bytes.new ≡ machine.opened }
-    {
-        *bytes = [0; 21];
-        Head {
-            inside: true,
-            escape: false,
-            count: 0,
-        }
-    }
-
-    // One more byte of a frame; more than 21 are not kept.
-    fn keep(self, byte: u8, bytes: &mut [u8; 21]) -> Head
-        ensures { joined result bytes.new ≡ machine.keep (joined self bytes.old) byte }
-    {
-        if 21 <= self.count {
-            *bytes = [0; 21];
-            return Head {
-                inside: true,
-                escape: false,
-                count: 22,
-            };
-        }
-        bytes[self.count as usize] = byte;
-        Head {
-            inside: true,
-            escape: false,
-            count: self.count + 1,
-        }
-    }
-
-    // A byte behind a flag that is none itself.
-    fn take(self, byte: u8, bytes: &mut [u8; 21]) -> Head
-        ensures { joined result bytes.new ≡ machine.taken (joined self bytes.old) byte }
-    {
-        if self.escape {
-            return self.keep(byte ^ 0x20, bytes);
-        }
-        if byte == ESCAPE {
-            return Head {
-                inside: true,
-                escape: true,
-                count: self.count,
-            };
-        }
-        self.keep(byte, bytes)
-    }
-
-    // One more byte read.
-    fn step(self, byte: u8, bytes: &mut [u8; 21]) -> Head
-        ensures { joined result bytes.new ≡ machine.step (joined self bytes.old) byte }
-    {
-        if byte == FLAG {
-            return Head::opened(bytes);
-        }
-        if self.inside {
-            return self.take(byte, bytes);
-        }
-        self
-    }
 }
 
 impl Line {
     // Before the first byte.
+    #[tactic(auto, unfolding(crate::specs::Machine::fresh))]
     pub fn fresh() -> Line
         ensures { result ≡ machine.fresh }
     {
@@ -135,70 +46,101 @@ impl Line {
         }
     }
 
-    // The numbers without the bytes.
-    fn head(self) -> Head
-        ensures { joined result self.bytes ≡ self }
+    // Behind a flag.
+    #[tactic(auto, unfolding(crate::specs::Machine::opened))]
+    fn opened() -> Line
+        ensures { result ≡ machine.opened }
     {
-        Head {
-            inside: self.inside,
-            escape: self.escape,
-            count: self.count,
+        Line {
+            inside: true,
+            escape: false,
+            count: 0,
+            bytes: [0; 21],
         }
     }
 
-    // The length of the packet that a flag ends now, or 0.
-    fn packet(self) -> usize
-        ensures { result ≡ cond (machine.passes self) (self.count - 2) 0 }
+    // One more byte of a frame; more than 21 are not kept.
+    #[tactic(auto, unfolding(crate::specs::Machine::keep, crate::specs::Machine::opened))]
+    fn keep(&mut self, byte: u8)
+        ensures { self.new ≡ machine.keep self.old byte }
     {
-        if !self.inside {
-            return 0;
+        if 21 <= self.count {
+            *self = Line {
+                count: 22,
+                ..Line::opened()
+            };
+            return;
         }
+        self.bytes[self.count as usize] = byte;
+        self.inside = true;
+        self.escape = false;
+        self.count += 1;
+    }
+
+    // A byte behind a flag that is none itself.
+    #[tactic(auto, unfolding(crate::specs::Machine::taken, crate::specs::Octets::is_escape, crate::specs::Octets::toggled))]
+    fn take(&mut self, byte: u8)
+        ensures { self.new ≡ machine.taken self.old byte }
+    {
         if self.escape {
-            return 0;
+            self.keep(byte ^ 0x20);
+        } else if byte == ESCAPE {
+            self.inside = true;
+            self.escape = true;
+        } else {
+            self.keep(byte);
         }
-        if self.count < 4 {
-            return 0;
+    }
+
+    // One more byte read.
+    #[tactic(auto, unfolding(crate::specs::Machine::step, crate::specs::Octets::is_flag))]
+    fn step(&mut self, byte: u8)
+        ensures { self.new ≡ machine.step self.old byte }
+    {
+        if byte == FLAG {
+            *self = Line::opened();
+        } else if self.inside {
+            self.take(byte);
         }
-        if 21 < self.count {
-            return 0;
+    }
+
+    // The length of the packet that a flag ends now, if it ends one.
+    fn packet(&self) -> Option<usize>
+        ensures { result ≡ cond (machine.passes self.now) (Some (self.now.count - 2)) None }
+    {
+        if !self.inside || self.escape || self.count < 4 || 21 < self.count {
+            return None;
         }
         let n = self.count as usize - 2;
-        let bytes = self.bytes;
-        let given = (bytes[n] as u16) + 256 * (bytes[n + 1] as u16);
-        if given != fcs::fcs(&bytes[..n]) {
-            return 0;
+        let given = u16::from_le_bytes([self.bytes[n], self.bytes[n + 1]]);
+        if given != fcs::fcs(&self.bytes[..n]) {
+            return None;
         }
-        n
+        Some(n)
     }
 
     // The bytes of a line read, up to the flag that gives a packet.
     pub fn read(self, line: &[u8]) -> Reading
         ensures { result ≡ machine.reading self line.now }
     {
-        let mut bytes = self.bytes;
-        let mut head = self.head();
-        let mut at = 0;
-        while at < line.len() {
-            let byte = line[at];
+        let mut after = self;
+        for (at, &byte) in line.iter().enumerate() {
             if byte == FLAG {
-                let length = head.line(bytes).packet();
-                if length != 0 {
-                    let frame = bytes;
+                if let Some(n) = after.packet() {
                     return Reading {
-                        line: Head::opened(&mut bytes).line(bytes),
+                        line: Line::opened(),
                         read: at + 1,
-                        length: length,
-                        frame: frame,
+                        packet: Some(n),
+                        frame: after.bytes,
                     };
                 }
             }
-            head = head.step(byte, &mut bytes);
-            at += 1;
+            after.step(byte);
         }
         Reading {
-            line: head.line(bytes),
-            read: at,
-            length: 0,
+            line: after,
+            read: line.len(),
+            packet: None,
             frame: [0; 21],
         }
     }

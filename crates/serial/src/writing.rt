@@ -4,16 +4,15 @@ ghost use Rattle.std.proofs.lemmas.List.Edits.{sets};
 ghost use Rattle.serial.specs.Octets.{is_flag, is_escape, escaped, escaped_bytes};
 ghost use Rattle.serial.specs.Writing.{write_answer, output_after};
 
-use super::{ESCAPE, FLAG, Written};
+use super::{ESCAPE, FLAG};
+use packet::Refusal;
 
 // The byte is written behind an escape.
+#[tactic(auto, unfolding(crate::specs::Octets::is_flag, crate::specs::Octets::is_escape))]
 fn is_escaped(byte: u8) -> bool
     ensures { result ≡ (is_flag byte || is_escape byte) }
 {
-    if byte == FLAG {
-        return true;
-    }
-    byte == ESCAPE
+    matches!(byte, FLAG | ESCAPE)
 }
 
 // A byte goes to place `at` of the output, and the place behind it is answered.
@@ -37,28 +36,23 @@ fn put_bytes(output: &mut [u8], at: usize, bytes: &[u8]) -> usize
         × (output.new ≡ sets output.old at (escaped_bytes bytes.now)) }
 {
     let mut behind = at;
-    let mut i = 0;
-    while i < bytes.len() {
-        behind = put_byte(output, behind, bytes[i]);
-        i += 1;
+    for &byte in bytes {
+        behind = put_byte(output, behind, byte);
     }
     behind
 }
 
 // A packet's frame goes to the start of the output.
-pub fn write(packet: &[u8], output: &mut [u8]) -> Written
+pub fn write(packet: &[u8], output: &mut [u8]) -> Result<usize, Refusal>
     ensures { (result ≡ write_answer packet.now output.old)
         × (output.new ≡ output_after packet.now output.old) }
 {
     let n = packet.len();
-    if n < 2 {
-        return Written::Refused(17);
-    }
-    if 19 < n {
-        return Written::Refused(17);
+    if n < 2 || 19 < n {
+        return Err(Refusal::WrongPacket);
     }
     if output.len() < 2 * (n + 2) + 2 {
-        return Written::Refused(16);
+        return Err(Refusal::ShortOutput);
     }
     let fcs = fcs::fcs(packet);
     output[0] = FLAG;
@@ -66,5 +60,5 @@ pub fn write(packet: &[u8], output: &mut [u8]) -> Written
     let high = put_byte(output, low, (fcs % 256) as u8);
     let end = put_byte(output, high, (fcs / 256) as u8);
     output[end] = FLAG;
-    Written::Frame(end + 1)
+    Ok(end + 1)
 }

@@ -16,12 +16,13 @@ pub const WRITE_ANSWER: usize = 8;
 pub const READ_ANSWER: usize = 16;
 
 // The record in bytes.
+#[tactic(auto, unfolding(crate::specs::LineBytes::line_in, crate::specs::LineBytes::yes, layout::specs::Layout::byte_at))]
 pub fn line_in(bytes: &[u8]) -> Line
     requires { line_length ≤ length bytes.now }
     ensures { result ≡ line_in bytes.now }
 {
     let mut kept = [0u8; 21];
-    copying::copy_in(&mut kept, &bytes[3..24]);
+    kept.copy_from_slice(&bytes[3..24]);
     Line {
         inside: bytes[0] != 0,
         escape: bytes[1] != 0,

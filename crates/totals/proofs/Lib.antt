@@ -1,3 +1,2 @@
 -- The laws of `totals`, and what the record says after any list of notices.
-pub mod Noted
 pub mod CountsNotices

@@ -13,8 +13,7 @@ use Rattle.layout.specs.Layout.{low_bytes, byte_at, number_at}
 use Rattle.layout.proofs.Parts.{number_unpacks}
 use Rattle.receiver_layout.specs.Answers.{fate_number, whole_length, notice_bytes, read_answer_bytes}
 use Rattle.receiver_layout.proofs.AnswersRead.{length-notice_bytes}
-use Rattle.totals_layout.specs.declared.Said.{Said}
-use Rattle.totals_layout.specs.declared.Said.TheVariants.{AnswerOf, AnswerOfNone}
+use Rattle.std.specs.Prelude.{Option, None, Some}
 use Rattle.totals_layout.specs.NoticeSaid.{fate_of_number, likely_notice, begins_with, notice_said}
 use Rattle.totals_layout.specs.Fits.{NoticeFits}
 use Rattle.totals_layout.proofs.BeginsWith.{begins_front, front_begins}
@@ -40,23 +39,23 @@ likely (Circuit c loss fate) fits rest =
     λ i. Circuit (number i) loss ((ap (fate_of_number (fate_number fate)) (number_unpacks 2 (whole_length fate) fits.1 []) ∙ fate_back fate) i)
 
 -- the notice read back from an answer's bytes is the notice, for every notice that fits there, whatever stands behind the answer
-pub notice_read_back : (n : Notice) → NoticeFits n → (bits : ℕ) (rest : List ℕ) → notice_said (read_answer_bytes n bits ++ rest) ≡ AnswerOf n
+pub notice_read_back : (n : Notice) → NoticeFits n → (bits : ℕ) (rest : List ℕ) → notice_said (read_answer_bytes n bits ++ rest) ≡ Some n
 unfolding notice_said read_answer_bytes
 notice_read_back n fits bits rest =
     rw (append_assoc, likely n fits (low_bytes 8 bits ++ rest), begins_front (notice_bytes n) (low_bytes 8 bits ++ rest))
 
 -- bytes of which a notice is read back are the bytes of its answer
-Said_bytes : Said → List ℕ → Type 0
-Said_bytes (AnswerOf n) answer = take 8 answer ≡ notice_bytes n
-Said_bytes AnswerOfNone answer = Unit {0}
+Said_bytes : Option Notice → List ℕ → Type 0
+Said_bytes (Some n) answer = take 8 answer ≡ notice_bytes n
+Said_bytes None answer = Unit {0}
 
-pub notice_bytes_said : (answer : List ℕ) (n : Notice) → notice_said answer ≡ AnswerOf n → take 8 answer ≡ notice_bytes n
+pub notice_bytes_said : (answer : List ℕ) (n : Notice) → notice_said answer ≡ Some n → take 8 answer ≡ notice_bytes n
 unfolding notice_said Said_bytes
 notice_bytes_said answer n e = subst (λ said. Said_bytes said answer) e (go (begins_with answer told) refl)
   where
     told : List ℕ
     told = notice_bytes (likely_notice answer)
 
-    go : (b : Bool) → begins_with answer told ≡ b → Said_bytes (cond b (AnswerOf (likely_notice answer)) AnswerOfNone) answer
+    go : (b : Bool) → begins_with answer told ≡ b → Said_bytes (cond b (Some (likely_notice answer)) None) answer
     go true s = subst (λ k. take k answer ≡ told) (length-notice_bytes (likely_notice answer)) (front_begins answer told s)
     go false s = tt

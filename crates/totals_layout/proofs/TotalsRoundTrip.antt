@@ -1,6 +1,6 @@
 -- The record of totals and its 64 bytes determine each other: every record's bytes are unpacked to it, and all bytes are some record's.
 use mathlib.Core.Path.{◌≡◌, refl}
-use Prim.Native.Nat.{ℕ, suc, ◌+◌, ◌*◌, ◌≤◌}
+use Prim.Native.Nat.{ℕ, ◌+◌, ◌≤◌}
 use native.Mathlib.Omega.{arith}
 use mathlib.Core.List.{List, [], ◌∷◌, ◌++◌}
 use lib.ListN.{length, take}
@@ -15,13 +15,6 @@ use Rattle.totals.specs.Figures.{no_figures}
 use Rattle.totals.specs.Totals.{figures_at}
 use Rattle.totals_layout.specs.TotalsBytes.{totals_length, figures_bytes, figures_in, totals_bytes, totals_in}
 use Rattle.totals_layout.specs.Fits.{FiguresFit, TotalsFit}
-
--- four bytes
-pub four_bytes : (bytes : List ℕ) (at : ℕ) → number_at 4 bytes at ≡ number_at 2 bytes at + 65536 * number_at 2 bytes (at + 2)
-unfolding number_at
-four_bytes bytes at =
-    let behind : at + 2 ≡ suc (suc at) = omega arith in
-    rw behind (omega arith)
 
 pub length-figures_bytes : (f : Figures) → length (figures_bytes f) ≡ 16
 unfolding figures_bytes low_bytes

@@ -1,5 +1,5 @@
 -- The notice that the bytes of a reading call's answer say, or nothing where they are the answer of no notice.
-use Rattle.std.specs.Prelude.{ℕ, Bool, true, false, cond, ◌&&◌, List, [], ◌∷◌, eqb}
+use Rattle.std.specs.Prelude.{ℕ, Bool, true, false, cond, ◌&&◌, List, [], ◌∷◌, eqb, Option, None, Some}
 use Rattle.notices.specs.declared.Fate.{Fate}
 use Rattle.notices.specs.declared.Fate.TheVariants.{Copy, Begun, Held, Whole, Orphan, Wrong}
 use Rattle.notices.specs.declared.Notice.{Notice}
@@ -8,8 +8,6 @@ use Rattle.layout.specs.Layout.{byte_at, number_at}
 use Rattle.receiver_layout.specs.Answers.{notice_bytes}
 use Rattle.totals.specs.declared.Totals.{Totals}
 use Rattle.totals.specs.Totals.{noted}
-use Rattle.totals_layout.specs.declared.Said.{Said}
-use Rattle.totals_layout.specs.declared.Said.TheVariants.{AnswerOf, AnswerOfNone}
 
 -- the fate of a number, where a whole message has length n; any number above 4 stands for Wrong
 unfoldable pub fate_of_number : ℕ → ℕ → Fate
@@ -31,10 +29,10 @@ begins_with [] (x ∷ xs) = false
 begins_with (b ∷ bytes) (x ∷ xs) = eqb b x && begins_with bytes xs
 
 -- the notice whose bytes the answer begins with
-unfoldable pub notice_said : List ℕ → Said
-notice_said answer = let n = likely_notice answer in cond (begins_with answer (notice_bytes n)) (AnswerOf n) AnswerOfNone
+unfoldable pub notice_said : List ℕ → Option Notice
+notice_said answer = let n = likely_notice answer in cond (begins_with answer (notice_bytes n)) (Some n) None
 
 -- the record after an answer: bytes that are the answer of no notice count nowhere
-unfoldable pub noted_said : Totals → Said → Totals
-noted_said t (AnswerOf n) = noted t n
-noted_said t AnswerOfNone = t
+unfoldable pub noted_said : Totals → Option Notice → Totals
+noted_said t (Some n) = noted t n
+noted_said t None = t

@@ -8,36 +8,23 @@ ghost use Rattle.std.proofs.lemmas.List.Edits.{sets};
 ghost use Rattle.layout.specs.Layout.{number_at};
 ghost use Rattle.totals_layout.specs.TotalsBytes.{totals_length, figures_bytes, figures_in, totals_bytes, totals_in};
 
-use layout::{put_number, word_at};
-use notices::Notice;
+use layout::put_number;
 use totals::{Figures, Totals};
 
 // The length of the record.
 pub const LENGTH: usize = 64;
 
-// What the bytes of an answer say: a notice, or nothing where they are the answer of none.
-#[derive(Clone, Copy)]
-pub enum Said {
-    AnswerOf(Notice),
-    AnswerOfNone,
-}
-
-// A number of two bytes as a wider one.
-fn wide(n: u16) -> u32
-    ensures { (result ≡ n) × (result ≤ 65535) }
-{
-    n as u32
-}
-
 // The number in four bytes, lowest first.
+#[tactic(auto, unfolding(layout::specs::Layout::number_at, layout::specs::Layout::byte_at))]
 fn number_at(bytes: &[u8], at: usize) -> u32
     requires { at + 4 ≤ length bytes.now }
     ensures { result ≡ number_at 4 bytes.now at }
 {
-    wide(word_at(bytes, at)) + 65536 * wide(word_at(bytes, at + 2))
+    u32::from_le_bytes([bytes[at], bytes[at + 1], bytes[at + 2], bytes[at + 3]])
 }
 
 // The figures in sixteen bytes.
+#[tactic(auto, unfolding(crate::specs::TotalsBytes::figures_in))]
 fn figures_in(bytes: &[u8], at: usize) -> Figures
     requires { at + 16 ≤ length bytes.now }
     ensures { result ≡ figures_in bytes.now at }
@@ -51,16 +38,13 @@ fn figures_in(bytes: &[u8], at: usize) -> Figures
 }
 
 // The record in bytes.
+#[tactic(auto, unfolding(crate::specs::TotalsBytes::totals_in))]
 pub fn totals_in(bytes: &[u8]) -> Totals
     requires { totals_length ≤ length bytes.now }
     ensures { result ≡ totals_in bytes.now }
 {
-    let first = figures_in(bytes, 0);
-    let second = figures_in(bytes, 16);
-    let third = figures_in(bytes, 32);
-    let fourth = figures_in(bytes, 48);
     Totals {
-        circuits: [first, second, third, fourth],
+        circuits: std::array::from_fn(|i| figures_in(bytes, 16 * i)),
     }
 }
 

@@ -8,6 +8,9 @@ use mathlib.Core.Path.{◌≡◌, refl, sym, ap, ◌∙◌}
 use lib.ListN.{length, take, drop, get_or}
 use lib.Pow.{split, pow_pos}
 use lib.Seq.{take_at, drop_at, drop-cons, take-take, drop-drop, take-add}
+use mir.Syntax.{w64}
+use Rattle.std.specs.Int.{from_le_bytes}
+use Rattle.std.proofs.lemmas.List.{get_or-take, get_or-drop}
 use Rattle.bits.specs.Bits.{low_bits, byte_bits, bits_of}
 use Rattle.bits.proofs.Fields.{low_bits_split}
 use Rattle.bits.proofs.Bits.{length-low_bits, bits_of_append, take-bits_of, drop-bits_of}
@@ -76,17 +79,41 @@ eight-bytes l i x y h e f =
     let s : x + 4294967296 * y ≡ x + y * 2 ^ 32 = omega arith in
     ap (low_bits 64) s ∙ low_bits_split 32 32 x y h ∙ rw (e, f, ← drop-drop 4 i l, ← bits_of_append, ← take-add 4 4 (drop i l))
 
+-- the eight bytes that are read as a number
+pub low_bits-eight : (l : List ℕ) (i : ℕ) → i + 8 ≤ length l → ((k : ℕ) → get_or l k 0 < 256) → (bytes : List ℕ) (n : ℕ) → bytes ≡ take 8 (drop i l) →
+    n ≡ from_le_bytes w64 bytes → low_bits 64 n ≡ bits_of (take 8 (drop i l))
+low_bits-eight l i h fits bytes n e f =
+    let at : (k : ℕ) → k < 8 → get_or bytes k 0 ≡ get_or l (i + k) 0 = λ k s. rw e (get_or-take 8 (drop i l) k 0 s ∙ get_or-drop i l k 0) in
+    let b : ℕ → ℕ = λ k. get_or l k 0 in
+    let x : ℕ = b i + 256 * b (i + 1) + 65536 * b (i + 2) + 16777216 * b (i + 3) in
+    let y : ℕ = b (i + 4) + 256 * b (i + 4 + 1) + 65536 * b (i + 4 + 2) + 16777216 * b (i + 4 + 3) in
+    let low : low_bits 32 x ≡ bits_of (take 4 (drop i l)) =
+    four_bytes (b i) (b (i + 1)) (b (i + 2)) (b (i + 3)) (fits i) (fits (i + 1)) (fits (i + 2)) ∙ ap bits_of (sym (four_from l i (omega arith))) in
+    let high : low_bits 32 y ≡ bits_of (take 4 (drop (i + 4) l)) =
+    four_bytes (b (i + 4)) (b (i + 4 + 1)) (b (i + 4 + 2)) (b (i + 4 + 3)) (fits (i + 4)) (fits (i + 4 + 1)) (fits (i + 4 + 2))
+    ∙ ap bits_of (sym (four_from l (i + 4) (omega arith))) in
+    let small : x < 2 ^ 32 = omega (arith, fits i, fits (i + 1), fits (i + 2), fits (i + 3)) in
+    let five : i + 4 + 1 ≡ i + 5 = omega arith in
+    let six : i + 4 + 2 ≡ i + 6 = omega arith in
+    let seven : i + 4 + 3 ≡ i + 7 = omega arith in
+    let zero_more : i + 0 ≡ i = omega arith in
+    let both : n ≡ x + 4294967296 * y =
+    f
+    ∙ rw (at 0 (omega arith), at 1 (omega arith), at 2 (omega arith), at 3 (omega arith), at 4 (omega arith), at 5 (omega arith), at 6 (omega arith), at 7 (omega arith), zero_more, five, six, seven)
+    (omega arith) in
+    ap (low_bits 64) both ∙ eight-bytes l i x y small low high
+
 -- bits from number `at` on, read from eight bytes
-pub bits_from : (l : List ℕ) (at r : ℕ) → low_bits 64 r ≡ bits_of (take 8 (drop (at / 8) l)) →
-    low_bits 56 (r / 2 ^ (at % 8) % 2 ^ 56) ≡ take 56 (drop at (bits_of l))
-bits_from l at r e =
+pub bits_from : (l : List ℕ) (at r w : ℕ) → low_bits 64 r ≡ bits_of (take 8 (drop (at / 8) l)) → w % 2 ^ 56 ≡ r / 2 ^ (at % 8) % 2 ^ 56 →
+    low_bits 56 w ≡ take 56 (drop at (bits_of l))
+bits_from l at r w e same =
     let k : ℕ = at % 8 in
     let i : ℕ = at / 8 in
     let m : ℕ = 8 - k in
     let s : k + (56 + m) ≡ 64 = omega arith in
     let q : 8 * i + k ≡ at = omega arith in
     let bytes : bits_of (take 8 (drop i l)) ≡ take 64 (drop (8 * i) (bits_of l)) = sym (take-bits_of 8 (drop i l)) ∙ ap (take 64) (sym (drop-bits_of i l)) in
-    low_bits_mod 56 (r / 2 ^ k) ∙ sym (take-low_bits 56 m (r / 2 ^ k))
+    sym (low_bits_mod 56 w) ∙ ap (low_bits 56) same ∙ low_bits_mod 56 (r / 2 ^ k) ∙ sym (take-low_bits 56 m (r / 2 ^ k))
     ∙ ap (take 56) (sym (drop-low_bits k (56 + m) r) ∙ ap (λ (j : ℕ). drop k (low_bits j r)) s ∙ ap (drop k) (e ∙ bytes))
     ∙ take-drop-take 56 k 64 (drop (8 * i) (bits_of l)) (omega arith)
     ∙ ap (take 56) (drop-drop k (8 * i) (bits_of l) ∙ ap (λ (j : ℕ). drop j (bits_of l)) q)

@@ -1,6 +1,6 @@
 -- Runs of ones by the tests that the code makes on numbers: where five ones in a row begin, and how many end a word.
 use Prim.Native.Nat.{ℕ, zero, suc, ◌+◌, ◌-◌, ◌*◌, ◌/◌, ◌^◌, ◌≤◌, ◌<◌, min}
-use native.Mathlib.Nat.{zero-add, zero-min, min-zero, suc-min-suc, min-eq_left, min-eq_right, pow-suc}
+use native.Mathlib.Nat.{zero-add, zero-min, min-zero, suc-min-suc, pow-suc}
 use native.Mathlib.Omega.{arith}
 use mathlib.Core.Bool.{Bool, true, false, cond, ◌&&◌}
 use mathlib.Core.List.{◌∷◌}
@@ -109,11 +109,11 @@ until-five (suc n) o w k h l =
     (λ e. until_one n o w k h l e (λ m. until-five n (suc o) (w / 2) k m (omega arith)))
 
 -- of a word: within it, or all of it
-pub until_within : (o w m : ℕ) → o ≤ 4 → m ≡ count_trailing_zeros 64 (five_ones (behind_ones o w)) + 5 - o → m < 56 → m ≡ until_five (low_bits 56 w) o
-until_within o w m h e l = sym (until-five 56 o w 64 h (omega arith) ∙ ap (min 56) (sym e) ∙ min-eq_right (omega arith))
-
-pub until_all : (o w m : ℕ) → o ≤ 4 → m ≡ count_trailing_zeros 64 (five_ones (behind_ones o w)) + 5 - o → 56 ≤ m → 56 ≡ until_five (low_bits 56 w) o
-until_all o w m h e l = sym (until-five 56 o w 64 h (omega arith) ∙ ap (min 56) (sym e) ∙ min-eq_left l)
+pub until_min : (o w x m : ℕ) → o ≤ 4 → x ≡ behind_ones o w → m ≡ min (count_trailing_zeros 64 (five_ones x) + 5 - o) 56 → m ≡ until_five (low_bits 56 w) o
+until_min o w x m h b e =
+    let k : ℕ = count_trailing_zeros 64 (five_ones (behind_ones o w)) + 5 - o in
+    let swapped : min k 56 ≡ min 56 k = omega arith in
+    rw b at e ∙ swapped ∙ sym (until-five 56 o w 64 h (omega arith))
 
 -- ---- the ones that end a word
 

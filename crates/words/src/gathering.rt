@@ -15,6 +15,7 @@ fn put_byte(stored: &mut [u8; 21], i: usize, byte: u8)
 }
 
 // The first bits that the bytes have, so many: at most 169, and all of them 0 if there are so many.
+// Stays: (a) a count beside fixed memory, here and in `gather`: no heap, and the bytes are those of a framing lent.
 pub fn kept(stored: &mut [u8; 21], count: usize) -> Gathered
     requires { count ≤ 169 }
     ensures { ((y : List Bool) → length y ≡ count → stored.old ≡ fill_bytes 21 y → (168 < count → y ≡ replicate 169 false) → Gathers result stored.new y)
@@ -28,12 +29,12 @@ pub fn kept(stored: &mut [u8; 21], count: usize) -> Gathered
             rest: 0,
         };
     }
-    let rest = crate::wide(stored[i]);
+    let rest = u64::from(stored[i]);
     stored[i] = 0;
     Gathered {
         bytes: i,
         len: count % 8,
-        rest: rest,
+        rest,
     }
 }
 
@@ -42,16 +43,17 @@ fn stored_bytes(g: Gathered, stored: &mut [u8; 21]) -> Gathered
     requires { (g.len < 64) × (g.bytes < 2 ^ 62) }
     ensures { ((y : List Bool) → Gathers g stored.old y → Gathers result stored.new y) × (result.len < 8) }
 {
-    let mut bytes = g.bytes;
-    let mut len = g.len;
+    let end = g.bytes + g.len / 8;
     let mut rest = g.rest;
-    while 8 <= len {
-        put_byte(stored, bytes, (rest % 256) as u8);
-        bytes += 1;
-        len -= 8;
-        rest = rest / 256;
+    for i in g.bytes..end {
+        put_byte(stored, i, (rest % 256) as u8);
+        rest /= 256;
     }
-    Gathered { bytes, len, rest }
+    Gathered {
+        bytes: end,
+        len: g.len % 8,
+        rest,
+    }
 }
 
 // The lowest n bits of a number behind those gathered.
@@ -67,14 +69,6 @@ pub fn gather(g: Gathered, stored: &mut [u8; 21], value: u64, n: usize) -> Gathe
     stored_bytes(more, stored)
 }
 
-// The k lowest bits of a byte.
-fn lowest_bits(byte: u8, k: usize) -> u8
-    requires { k < 8 }
-    ensures { result ≡ byte % 2 ^ k }
-{
-    byte % (1 << k)
-}
-
 // Of the byte of bit `end` the bits before it are left, and the byte behind that becomes 0.
 fn cut(stored: &mut [u8; 21], end: usize)
     requires { end ≤ 168 }
@@ -85,7 +79,7 @@ fn cut(stored: &mut [u8; 21], end: usize)
     if 21 <= i {
         return;
     }
-    stored[i] = lowest_bits(stored[i], end % 8);
+    stored[i] = crate::lowest(u64::from(stored[i]), end % 8) as u8;
     put_byte(stored, i + 1, 0);
 }
 

@@ -1,13 +1,13 @@
 -- The next frame of a circuit at which a copy waits, in a record in range: what writing it asks holds, and it has at most
 -- 209 bits with its flag, since its packet has at most 19 bytes.
-use Prim.Native.Nat.{ℕ, ◌≤◌, ◌<◌}
+use Prim.Native.Nat.{ℕ, ◌+◌, ◌-◌, ◌*◌, ◌≤◌, ◌<◌}
 use native.Mathlib.Omega.{arith}
 use mathlib.Core.Bool.{Bool, true, false}
 use mathlib.Core.List.{List, ◌++◌}
 use mathlib.Core.Path.{◌≡◌, refl}
 use borrow.Author.Tests.{ltb-true, ltb-false}
 use lib.Dec.{ltb}
-use lib.ListN.{length, get_or, length-take, length-drop, get_or-eq_default}
+use lib.ListN.{length, take, drop, get_or, length-take, length-drop, get_or-eq_default}
 use Rattle.hdlc.specs.Frames.{flag, frame}
 use Rattle.hdlc.proofs.FrameLength.{length-frame-flag}
 use Rattle.packet.specs.declared.Circuit.{Circuit}
@@ -46,6 +46,14 @@ pub next_frame-packet_at : (s : Sender) (store : List ℕ) (c : ℕ)
     → next_frame s store c ≡ frame (packet_at (get_or s.circuits.list c no_circuit) (slot_at s c) (message_at s store c)) ++ flag
 unfolding next_frame
 next_frame-packet_at s store c = rw next_packet-packet_at
+
+-- a circuit's message, as a part of the store
+pub message_at_part : (s : Sender) (store : List ℕ) (c : ℕ)
+    → take (region * c + (slot_at s c).length - region * c) (drop (region * c) store) ≡ message_at s store c
+unfolding message_at
+message_at_part s store c =
+    let n : region * c + (slot_at s c).length - region * c ≡ (slot_at s c).length = omega arith in
+    rw n
 
 -- a listed circuit of a record in range: its number, its slot and its message, its next frame, its extension
 module _ (s : Sender) (store : List ℕ) (c : ℕ) (e : in_range s ≡ true) (h : c < s.circuits.count) (l : store_length ≤ length store) where

@@ -1,8 +1,12 @@
--- `copying::copy_at` meets its contract.
-use Rattle.bits.proofs.Lists.{sets_part}
+-- `copying::copy_at` meets its contract: the part holds the bytes.
+use Prim.Native.Nat.{◌+◌, ◌-◌}
+use native.Mathlib.Omega.{arith}
+use lib.ListN.{length}
+use Rattle.bits.proofs.Lists.{sets_mid}
 use Rattle.copying.proofs.copy_at.Goals as goal
 
 pub returns : goal.returns
 returns c =
     let a = c.args in
-    sets_part a.at a.dst.now a.src.now _ c.requires c.copy_in.ensures
+    rw c.copy_from_slice.ensures.after
+    (sets_mid a.dst.now a.src.now a.at (a.at + length a.src.now - a.at) (omega arith) (omega arith))

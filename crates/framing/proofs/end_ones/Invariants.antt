@@ -1,6 +1,6 @@
 -- `end_ones` meets its contract. The loop's invariant: going on from here with the ones counted so far gives what counting from
 -- the start gives.
-use Prim.Native.Nat.{◌-◌, ◌≤◌}
+use Prim.Native.Nat.{◌≤◌}
 use mathlib.Core.Path.{◌≡◌}
 use lib.ListN.{take, drop}
 use Rattle.bits.specs.Bits.{bits_of}
@@ -9,7 +9,4 @@ use Rattle.framing.proofs.end_ones.Given as goal
 
 abbrev pub invariant-loop-at : goal.invariant-loop-at
 invariant-loop-at l =
-    (l.at ≤ 168) × (l.ones ≤ l.at) × (end_ones (drop l.at (take l.n (bits_of l.bytes))) l.ones ≡ end_ones (take l.n (bits_of l.bytes)) 0)
-
-abbrev pub decreases-loop-at : goal.decreases-loop-at
-decreases-loop-at l = l.n - l.at
+    (l.ones ≤ l.at) × (end_ones (drop l.at (take l.n (bits_of l.bytes))) l.ones ≡ end_ones (take l.n (bits_of l.bytes)) 0)

@@ -12,6 +12,6 @@ pub returns : goal.returns
 returns c =
     let a = c.args in
     overwritten_runs a.bytes.now _ _ a.at a.zeros a.ones false true (shape_of-bytes c)
-    (Bytes_each _ (λ i. (c.slice_known-3-1.given i).fits))
+    (Bytes_each _ (λ i. search rules))
     c.put_run.ensures
     c.put_run-2.ensures

@@ -6,7 +6,7 @@ use Rattle.hdlc.proofs.put_one.Goals as goal
 pub put-requires : goal.put-requires
 put-requires c =
     let b = c.of-chunk.ensures in
-    let r = c.requires.1 in
+    let r = c.requires in
     (r.held, omega (arith, r.within, chunk_length b), b.least, omega (arith, b.most), b.fits)
 
 pub returns : goal.returns

@@ -6,7 +6,7 @@ use mathlib.Core.Path.{sym, ◌∙◌}
 use lib.ListN.{length-append}
 use Rattle.bits.specs.Bits.{byte_bits}
 use Rattle.bits.proofs.Bits.{length-byte_bits}
-use Rattle.hdlc.proofs.Stuffing.{stuff_from-least, free_after_le}
+use Rattle.hdlc.proofs.Stuffing.{stuff_from-least}
 use Rattle.hdlc.proofs.FiveOnes.{two_bytes_lem}
 use Rattle.hdlc.proofs.ByWriter.{WriterPut_number, stuffed_first, stuffed_next, stuffed_append}
 use Rattle.hdlc.proofs.put_two.Goals as goal
@@ -15,9 +15,9 @@ pub put-requires : goal.put-requires
 put-requires c =
     let a = byte_bits c.args.low in
     let b = byte_bits c.args.high in
-    let r = c.requires.1 in (
+    let r = c.requires in (
       r.held,
-      omega (arith, r.within, stuff_from-least (a ++ b) c.args.free, length-append a b, length-byte_bits c.args.low, length-byte_bits c.args.high),
+      omega (arith, r.within, stuff_from-least (a ++ b) c.args.free.ones, length-append a b, length-byte_bits c.args.low, length-byte_bits c.args.high),
       omega arith,
       omega arith,
       omega arith,
@@ -31,16 +31,13 @@ returns-then-plain_two c =
 
 pub put_one-first-requires : goal.put_one-first-requires
 put_one-first-requires c =
-    (c.requires.0, stuffed_first (byte_bits c.args.low) (byte_bits c.args.high) c.args.free c.requires.1)
+    stuffed_first (byte_bits c.args.low) (byte_bits c.args.high) c.args.free.ones c.requires
 
 pub put_one-requires : goal.put_one-requires
 put_one-requires c =
-    let a = byte_bits c.args.low in (
-      rw c.free_behind.ensures (free_after_le _ _ c.requires.0),
-      stuffed_next a (byte_bits c.args.high) c.args.free c.put_one-first.ensures c.free_behind.ensures c.requires.1 c.put_one-first.auto.buf,
-    )
+    stuffed_next (byte_bits c.args.low) (byte_bits c.args.high) c.args.free.ones c.put_one-first.ensures c.behind.ensures c.requires c.put_one-first.auto.buf
 
 pub returns : goal.returns
 returns c =
-    stuffed_append (byte_bits c.args.low) (byte_bits c.args.high) c.args.free c.put_one-first.ensures c.free_behind.ensures
+    stuffed_append (byte_bits c.args.low) (byte_bits c.args.high) c.args.free.ones c.put_one-first.ensures c.behind.ensures
     c.put_one.ensures

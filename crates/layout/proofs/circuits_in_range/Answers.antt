@@ -1,22 +1,13 @@
 -- `layout::circuits_in_range` meets its contract.
-use Prim.Native.Nat.{◌<◌}
-use native.Mathlib.Omega.{arith}
-use borrow.Author.Tests.{le-leb, lt-leb}
+use mathlib.Core.Path.{◌≡◌}
+use borrow.Author.Tests.{le-leb}
+use Rattle.packet.proofs.AnswerNumbers.{is_ok-answer_of}
 use Rattle.layout.specs.Layout.{byte_at, circuits_in}
 use Rattle.layout.proofs.Parts.{circuits_behind}
 use Rattle.layout.proofs.circuits_in_range.Goals as goal
 
-pub overflow_cast-count : goal.overflow_cast-count
-overflow_cast-count c = omega (arith, c.shared_slice_known-1.given 0)
-
-pub returns-then-count-gt4 : goal.returns-then-count-gt4
-unfolding byte_at circuits_in
-returns-then-count-gt4 c =
-    let many : 4 < (circuits_in c.args.bytes.now).count = omega arith in
-    rw (lt-leb _ 4 many)
-
 pub returns : goal.returns
 unfolding byte_at circuits_in
 returns c =
-    let few = c.if-count-gt4.false in
-    rw (le-leb _ _ few, c.refusal.ensures, circuits_behind c.args.bytes.now c.requires few)
+    let few = rw c.from-count.ensures at c.if-count-gt4.false in
+    rw (le-leb _ _ few, c.is_ok.ensures.value, c.check.ensures, is_ok-answer_of, c.from-count.ensures, circuits_behind c.args.bytes.now c.requires few)

@@ -1,9 +1,6 @@
--- `printing::print_bytes` meets its contract.
-use Rattle.std.proofs.Common.{◌-◌, ◌≤◌, length}
+-- `printing::print_bytes` meets its contract: two digits for each byte so far.
+use Rattle.std.proofs.Common.{◌≡◌, ◌*◌}
 use Rattle.printing.proofs.print_bytes.Given as goal
 
-abbrev pub invariant-loop-i : goal.invariant-loop-i
-invariant-loop-i g l = l.i ≤ length l.bytes
-
-abbrev pub decreases-loop-i : goal.decreases-loop-i
-decreases-loop-i g l = length l.bytes - l.i
+abbrev pub invariant-loop-byte : goal.invariant-loop-byte
+invariant-loop-byte g l = l.digits ≡ 2 * l.byte-index

@@ -1,9 +1,6 @@
--- `printing::print_numbers` meets its contract.
-use Rattle.std.proofs.Common.{◌-◌, ◌≤◌, length}
+-- `printing::print_numbers` meets its contract: as many as there were so far.
+use Rattle.std.proofs.Common.{◌≡◌}
 use Rattle.printing.proofs.print_numbers.Given as goal
 
-abbrev pub invariant-loop-k : goal.invariant-loop-k
-invariant-loop-k g l = l.k ≤ length l.numbers
-
-abbrev pub decreases-loop-k : goal.decreases-loop-k
-decreases-loop-k g l = length l.numbers - l.k
+abbrev pub invariant-loop-number : goal.invariant-loop-number
+invariant-loop-number g l = l.count ≡ l.number-index

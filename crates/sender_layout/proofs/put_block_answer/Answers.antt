@@ -10,8 +10,8 @@ use Rattle.sender_layout.proofs.put_block_answer.Goals as goal
 pub returns : goal.returns
 unfolding block_answer_bytes
 returns c =
-    let a = c.args in
-    let placed = low_bytes 4 a.placed in
-    let used = low_bytes 4 a.used in
-    two_written _ 0 8 (placed ++ used) (low_bytes 4 a.zeros) (length_placed_used a.placed a.used)
-    (two_written _ 0 4 placed used (length-low_bytes 4 a.placed) c.put_number.ensures c.put_number-2.ensures) c.put_number-3.ensures
+    let b = c.args.block in
+    let placed = low_bytes 4 b.placed in
+    let used = low_bytes 4 b.used in
+    two_written _ 0 8 (placed ++ used) (low_bytes 4 b.zeros) (length_placed_used b.placed b.used)
+    (two_written _ 0 4 placed used (length-low_bytes 4 b.placed) c.put_number.ensures c.put_number-2.ensures) c.put_number-3.ensures

@@ -5,12 +5,4 @@ use Rattle.sender_layout.proofs.slot_bytes.Goals as goal
 
 pub returns : goal.returns
 unfolding slot_bytes low_bytes
-returns c =
-    rw (
-      c.low_byte.ensures,
-      c.low_byte-2.ensures,
-      c.low_byte-3.ensures,
-      c.low_byte-4.ensures,
-      c.low_byte-5.ensures,
-      c.low_byte-6.ensures,
-    )
+returns c = rw (c.to_le_bytes-length.ensures, c.to_le_bytes-place.ensures, c.to_le_bytes-left.ensures)

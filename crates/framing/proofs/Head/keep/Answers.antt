@@ -1,5 +1,6 @@
 -- `Head::keep` meets its contract: the bits held back are written where they have room.
 use native.Mathlib.Omega.{arith}
+use borrow.Author.Rules.{rules}
 use Rattle.framing.specs.Heads.{framing_of}
 use Rattle.framing.proofs.Stepping.{plain_le, keep_room, keep-full}
 use Rattle.framing.proofs.Head.keep.Goals as goal
@@ -26,5 +27,5 @@ returns c =
     c.plain_zeros-plain.ensures
     _
     c.if-end-gt168.false
-    c.put_held-arg-1.given.0.1
+    (search rules)
     c.put_held.ensures

@@ -1,5 +1,6 @@
 -- `packet::Circuits::of` meets its contract. The loop's invariant: the first i circuits are stored. Assumes nothing.
-use Prim.Native.Nat.{◌<◌, ◌≤◌}
+use Prim.Native.Nat.{◌/◌, ◌<◌, ◌≤◌}
+use mathlib.Core.Path.{◌≡◌}
 use native.Mathlib.Omega.{arith}
 use lib.ListN.{length}
 use Rattle.packet.specs.Circuits.{circuits_of}
@@ -28,4 +29,5 @@ returns c =
     let cs = circuits_of c.args.bytes.now in
     let few : length cs ≤ 4 = omega (arith, length-circuits_of c.args.bytes.now, c.requires) in
     let end : length cs ≤ l.i = omega (arith, length-circuits_of c.args.bytes.now) in
-    Stored_end cs l.list l.i few end l.invariant
+    let all : l.i ≡ length c.args.bytes.now / 3 = omega arith in
+    rw all at (Stored_end cs l.list l.i few end l.invariant)

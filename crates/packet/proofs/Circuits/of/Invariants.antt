@@ -1,12 +1,7 @@
 -- `packet::Circuits::of` meets its contract. The loop's invariant: the first i circuits are stored. Assumes nothing.
-use Prim.Native.Nat.{◌-◌, ◌/◌}
-use lib.ListN.{length}
 use Rattle.packet.specs.Circuits.{circuits_of}
 use Rattle.packet.proofs.CircuitLists.{Stored}
 use Rattle.packet.proofs.Circuits.of.Given as goal
 
 abbrev pub invariant-loop-i : goal.invariant-loop-i
 invariant-loop-i l = Stored (circuits_of l.bytes) l.list l.i
-
-abbrev pub decreases-loop-i : goal.decreases-loop-i
-decreases-loop-i l = length l.bytes / 3 - l.i

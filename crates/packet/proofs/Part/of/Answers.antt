@@ -12,7 +12,7 @@ pub returns-then-k-eq0 : goal.returns-then-k-eq0
 returns-then-k-eq0 c =
     let a = c.args in
     let h = c.header_length-first.result in
-    part_of_eq a.n a.k 0 (16 - h) c.least-len.result (omega arith) (omega (arith, length-header a.n)) (omega arith)
+    part_of_eq a.n a.k 0 (16 - h) c.min-len.result (omega arith) (omega (arith, length-header a.n)) (omega arith)
 
 pub overflow_mul-from : goal.overflow_mul-from
 unfolding packets
@@ -31,5 +31,5 @@ returns c =
     let a = c.args in
     let h = c.header_length-first.result in
     let from = 16 - h + 16 * (a.k - 1) in
-    part_of_eq a.n a.k from 16 c.least-len-2.result (omega (arith, length-header a.n)) (omega (arith, length-header a.n))
-    c.least-len-2.ensures
+    part_of_eq a.n a.k from 16 c.min-len-2.result (omega (arith, length-header a.n)) (omega (arith, length-header a.n))
+    (omega (arith, c.min-len-2.ensures))

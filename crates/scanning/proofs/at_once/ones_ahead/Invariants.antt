@@ -5,8 +5,8 @@ use Rattle.scanning.specs.Ahead.{ReadAhead}
 use Rattle.framing.specs.Machine.{fresh}
 use Rattle.scanning.proofs.at_once.ones_ahead.Given as goal
 
-abbrev pub invariant-loop-at : goal.invariant-loop-at
-invariant-loop-at l = ReadAhead fresh fresh (bits_of l.bytes) l.from l.at l.to
+abbrev pub invariant-loop-word : goal.invariant-loop-word
+invariant-loop-word l = ReadAhead fresh fresh (bits_of l.stretch.bytes.now) l.stretch.from l.at l.stretch.to
 
-abbrev pub decreases-loop-at : goal.decreases-loop-at
-decreases-loop-at l = l.to - l.at
+abbrev pub decreases-loop-word : goal.decreases-loop-word
+decreases-loop-word l = l.stretch.to - l.at

@@ -6,7 +6,7 @@ use Rattle.sender.proofs.blocks.fill.Given as goal
 
 abbrev pub invariant-loop-circuit : goal.invariant-loop-circuit
 invariant-loop-circuit l =
-    ToFill l.initial.buf l.initial.s l.store (record { at = l.initial.end; zeros = l.initial.zeros }) l.enable l.u l.buf l.s l.end l.placed l.zeros
+    ToFill l.initial.buf l.initial.sender l.store (record { at = l.initial.used; zeros = l.initial.zeros }) l.enable l.u l.buf l.sender l.used l.placed l.zeros
 
 abbrev pub decreases-loop-circuit : goal.decreases-loop-circuit
-decreases-loop-circuit l = waiting l.s
+decreases-loop-circuit l = waiting l.sender

@@ -11,18 +11,11 @@ returns-then-at-u c =
     let p = c.requires in
     fits-longest a.sender a.store.now a.circuit p.sender_value p.circuit_lt_count p.store_length_in_bounds p.circuit_value a.at a.u c.if-at-u.true
 
-pub put_next-measured-requires : goal.put_next-measured-requires
-put_next-measured-requires c =
+pub put_next-measured-requires-clause-room : goal.put_next-measured-requires-clause-room
+put_next-measured-requires-clause-room c =
     let a = c.args in
     let p = c.requires in
-    record {
-      sender_value = p.sender_value;
-      circuit_lt_count = p.circuit_lt_count;
-      circuit_value = p.circuit_value;
-      store_length_in_bounds = p.store_length_in_bounds;
-      room =
-          next_frame_room a.sender a.store.now a.circuit p.sender_value p.circuit_lt_count p.store_length_in_bounds p.circuit_value _ refl;
-    }
+    next_frame_room a.sender a.store.now a.circuit p.sender_value p.circuit_lt_count p.store_length_in_bounds p.circuit_value _ refl
 
 pub overflow_add-result : goal.overflow_add-result
 overflow_add-result c =

@@ -1,21 +1,17 @@
 -- `sender::blocks::make_block` meets its contract: a refusal leaves all as it was, and otherwise the block is written.
-use native.Mathlib.Omega.{arith}
-use mathlib.Core.Path.{◌∙◌, sym}
-use Rattle.sender.specs.BlockCalls.{system}
+use mathlib.Core.Path.{sym}
+use Rattle.packet.proofs.AnswerNumbers.{answer_of-Ok}
+use Rattle.std.proofs.lemmas.Result.{err_from_is_err_and}
 use Rattle.sender.proofs.BlockSteps.{BlockCalled_refused, BlockCalled-made}
 use Rattle.sender.proofs.blocks.make_block.Goals as goal
 
-pub returns-then-number-ne0 : goal.returns-then-number-ne0
-returns-then-number-ne0 c =
-    let a = c.args in
-    BlockCalled_refused a.sender a.store.now a.buf.now a.n a.u
-    (system a.wanted a.enable a.code a.information.now) c.refusal-number.result c.refusal-number.ensures (λ z. omega (arith, c.if-number-ne0.true))
-
-pub write_block-f-requires : goal.write_block-f-requires
-write_block-f-requires c = sym c.refusal-number.ensures ∙ c.if-number-ne0.false
+pub write_block-block-requires : goal.write_block-block-requires
+write_block-block-requires c = answer_of-Ok _ _ (sym c.in_ok-check.ensures)
 
 pub returns : goal.returns
-returns c =
-    let a = c.args in
-    BlockCalled-made a.sender a.store.now a.buf.now a.n a.u
-    (system a.wanted a.enable a.code a.information.now) (sym c.refusal-number.ensures ∙ c.if-number-ne0.false) c.write_block-f.ensures
+returns c = BlockCalled-made _ _ _ _ _ _ (answer_of-Ok _ _ (sym c.in_ok-check.ensures)) c.write_block-block.ensures
+
+pub returns-in_err-check : goal.returns-in_err-check
+returns-in_err-check c =
+    let p = err_from_is_err_and c.from_residual.result c.from_residual.ensures.1 in
+    rw (p.1, p.2) (BlockCalled_refused _ _ _ _ _ _ _ (sym c.in_err-check.ensures))

@@ -1,10 +1,7 @@
 -- `sender::blocks::put_system` meets its contract: the packet is three bytes of a number, and the information, and what its frame and flag have beyond eight
 -- bits for each byte was added.
 use native.Mathlib.Omega.{arith}
-use mathlib.Core.Path.{◌≡◌}
-use Rattle.hdlc.specs.Leads.{led}
 use Rattle.hdlc.proofs.AddedZeros.{led_within, FrameWritten-led}
-use Rattle.packet.specs.Packets.{system_packet}
 use Rattle.sender.proofs.OpeningBits.{led-system}
 use Rattle.sender.proofs.blocks.put_system.Goals as goal
 
@@ -16,21 +13,15 @@ below-number-requires c = omega (arith, c.below.ensures.small 256 (omega (arith,
 
 pub write_led-end-requires : goal.write_led-end-requires
 write_led-end-requires c =
-    let whole : let a = c.args in led c.below-number.result 3 a.information.now ≡ system_packet a.enable a.code a.information.now =
-    let a = c.args in
-    led-system a.enable a.code a.information.now c.below-number.ensures c.below.ensures c.below-descriptor.ensures in
+    let whole = led-system _ _ _ c.below-number.ensures c.below.ensures c.below-descriptor.ensures in
     record { n_nonzero = omega arith; room = rw whole c.requires.room }
 
 pub of-requires : goal.of-requires
 of-requires c =
-    let whole : let a = c.args in led c.below-number.result 3 a.information.now ≡ system_packet a.enable a.code a.information.now =
-    let a = c.args in
-    led-system a.enable a.code a.information.now c.below-number.ensures c.below.ensures c.below-descriptor.ensures in
+    let whole = led-system _ _ _ c.below-number.ensures c.below.ensures c.below-descriptor.ensures in
     led_within _ 3 _ whole c.write_led-end.ensures
 
 pub returns : goal.returns
 returns c =
-    let whole : let a = c.args in led c.below-number.result 3 a.information.now ≡ system_packet a.enable a.code a.information.now =
-    let a = c.args in
-    led-system a.enable a.code a.information.now c.below-number.ensures c.below.ensures c.below-descriptor.ensures in
+    let whole = led-system _ _ _ c.below-number.ensures c.below.ensures c.below-descriptor.ensures in
     FrameWritten-led _ 3 _ whole c.write_led-end.ensures c.of.ensures

@@ -8,13 +8,14 @@ use Rattle.serial.specs.Octets.{escaped}
 use Rattle.serial.proofs.Escaping.{place_below, length-escaped_bytes, length_written, frame_written}
 use Rattle.serial.proofs.Writes.{packet_few, packet_many, output_short, accepted}
 use Rattle.serial.proofs.writing.write.Goals as goal
+use Rattle.serial.proofs.writing.write.Goals.{then-n-lt2-via-then-n-lt2, then-n-lt2-via-else-n-lt2+then-n-gt19}
 
 pub returns-then-n-lt2 : goal.returns-then-n-lt2
-returns-then-n-lt2 c = packet_few c.args.packet.now c.args.output.now (omega (arith, c.if-n-lt2.true))
-
-pub returns-then-n-gt19 : goal.returns-then-n-gt19
-returns-then-n-gt19 c =
-    packet_many c.args.packet.now c.args.output.now (omega (arith, c.if-n-gt19.true))
+returns-then-n-lt2 c =
+    elim c.then-n-lt2.branch [
+      | then-n-lt2-via-then-n-lt2 w ↦ packet_few c.args.packet.now c.args.output.now (omega (arith, w.if-n-lt2.true))
+      | then-n-lt2-via-else-n-lt2+then-n-gt19 w ↦ packet_many c.args.packet.now c.args.output.now (omega (arith, w.if-n-gt19.true))
+    ]
 
 pub returns-then-output-n : goal.returns-then-output-n
 returns-then-output-n c =

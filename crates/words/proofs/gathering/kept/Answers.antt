@@ -9,9 +9,8 @@ returns-then-i-ge21 c =
 
 pub returns : goal.returns
 returns c =
-    let s = c in (
-      λ y all old zeros.
-          rw c.wide-rest.ensures.0 (gathers_kept s.args.stored.now s.args.count y all old c.if-i-ge21.false),
+    let a = c.args in (
+      λ y all old zeros. rw c.from-rest.ensures (gathers_kept a.stored.now a.count y all old c.if-i-ge21.false),
       omega arith,
       omega (arith, c.if-i-ge21.false),
     )

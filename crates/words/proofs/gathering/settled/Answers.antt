@@ -1,26 +1,14 @@
 -- `words::gathering::settled` meets its contract.
-use Prim.Native.Nat.{◌+◌, ◌-◌, ◌*◌, ◌/◌, ◌%◌, ◌^◌, ◌≤◌, ◌<◌}
+use Prim.Native.Nat.{◌+◌, ◌-◌, ◌*◌, ◌/◌, ◌%◌, ◌^◌, ◌≤◌}
 use mathlib.Core.List.{◌++◌}
 use native.Mathlib.Omega.{arith}
-use mathlib.Core.Path.{◌≡◌, refl, ap, ◌∙◌}
-use borrow.Author.Tests.{le-leb, lt-leb}
+use mathlib.Core.Path.{◌≡◌, ap, ◌∙◌}
+use borrow.Author.Tests.{le-leb}
 use lib.ListN.{length, get_or, set, length-append}
 use Rattle.bits.specs.Bits.{fill_bytes}
 use Rattle.bits.proofs.Bits.{length-fill_bytes}
 use Rattle.words.proofs.GatheredBits.{gathers_all, cut-held}
 use Rattle.words.proofs.gathering.settled.Goals as goal
-
-pub returns-then-g-gt21 : goal.returns-then-g-gt21
-returns-then-g-gt21 c =
-    λ x v held old.
-    let long : 168 < length x = omega (arith, c.if-g-gt21.true, held, length-append x v, old.all) in
-    rw (lt-leb (length x) 168 long) (refl, refl)
-
-pub returns-then-end-gt168 : goal.returns-then-end-gt168
-returns-then-end-gt168 c =
-    λ x v held old.
-    let long : 168 < length x = omega (arith, c.if-end-gt168.true, held, length-append x v, old.all) in
-    rw (lt-leb (length x) 168 long) (refl, refl)
 
 pub returns : goal.returns
 returns c =

@@ -8,12 +8,6 @@ use Rattle.bits.specs.Writer.{with_held}
 use Rattle.bits.proofs.HeldBits.{own_held}
 use Rattle.bits.proofs.writer.BitWriter.new.Goals as goal
 
-pub overflow_cast-bits : goal.overflow_cast-bits
-overflow_cast-bits c = omega (arith, c.shared_slice_known-2-1.given (c.args.at / 8))
-
-pub nonzero_rem-bits : goal.nonzero_rem-bits
-nonzero_rem-bits c = rw c.power.ensures (pow_pos _)
-
 pub returns : goal.returns
 unfolding with_held
 returns c =

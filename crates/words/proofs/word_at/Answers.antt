@@ -1,7 +1,0 @@
--- `words::word_at` meets its contract.
-use native.Mathlib.Omega.{arith}
-use Rattle.words.proofs.Numbers.{bits_from}
-use Rattle.words.proofs.word_at.Goals as goal
-
-pub returns : goal.returns
-returns c = (bits_from c.args.s.now c.args.at _ c.eight_bytes.ensures, omega arith)
