@@ -11,6 +11,7 @@ use packet::{Answer, Refusal};
 use scanning::Stretch;
 
 // The bits from number `from` up to `to` are read with the framing in the bytes `record`.
+// Stays: (a) six parameters: those of the function for C (include/aes18.h).
 pub fn read(
     record: &mut [u8],
     bits: &[u8],

@@ -121,6 +121,7 @@ impl Sender {
     }
 
     // An offer is accepted: its message goes to the start of the circuit's region, and the circuit's slot has it to send.
+    // Stays: (d) the circuit and the length are asked of an offer that has just been let pass: as a type this is `self.accept(store, Judged::new(offer))`, taken apart again here.
     #[tactic(auto, using(bits::proofs::Lists::sets_part), unfolding(crate::specs::Offering::offered_sender, crate::specs::Offering::offered_store, crate::specs::Record::slot_at, crate::specs::Record::no_slot, packet::specs::Stores::region))]
     fn accept(&mut self, store: &mut [u8], offer: Offer<'_>)
         requires { (offer.circuit < 4) × (length offer.message.now ≤ longest) × (region * offer.circuit + length offer.message.now ≤ length store.old) }

@@ -53,6 +53,7 @@ fn slots_in_range(slots: [Slot; 4], count: usize) -> bool
 }
 
 // The slot with a message to send.
+// Stays: (d) the length is asked of an offer that has just been let pass; a type for that would be taken apart again here.
 pub fn offered_slot(t: Slot, offer: Offer<'_>) -> Slot
     requires { length offer.message.now ≤ longest }
     ensures { result ≡ offered_slot t offer.entry.priority offer.entry.repetition offer.entry.message.now }

@@ -76,6 +76,7 @@ fn advance(t: Slot) -> Slot
 }
 
 // A copy of this circuit is placed.
+// Stays: (d) what is asked is what `pick` has found of the circuit: as a type this is `serve(sender, Place::new(circuit))` at each call, taken apart again here.
 #[tactic(auto, unfolding(crate::specs::Picking::served, offering::specs::Record::slot_at, offering::specs::Record::no_slot))]
 pub fn serve(sender: &mut Sender, circuit: usize)
     requires { (circuit < 4) × (slot_in_range (slot_at sender.old circuit) ≡ true) × (pending (slot_at sender.old circuit) ≡ true) }

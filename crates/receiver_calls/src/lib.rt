@@ -66,6 +66,7 @@ fn check(record: &[u8], store: &[u8], bits: &[u8], from: usize, to: usize) -> An
 }
 
 // A listed circuit's packet is heard: its slot in the bytes and the store are written.
+// Stays: (d) `circuit < 4` is asked of a number that its one caller has just found: as a type this is `Place::new(circuit)` there, taken apart again here.
 fn hear_circuit(
     record: &mut [u8],
     store: &mut [u8],
@@ -123,6 +124,7 @@ fn hear(record: &mut [u8], store: &mut [u8], packet: &Passed<'_>) -> Notice
 }
 
 // The bits from number `from` up to `to` are read, until the first notice, by the receiver whose record is in the bytes.
+// Stays: (a) a twin of the call on a record as a value, which document 01 has, with the six parameters of the function for C (include/aes18.h); (b) in the bytes only what changes is written.
 pub fn read(
     record: &mut [u8],
     store: &mut [u8],

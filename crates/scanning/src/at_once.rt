@@ -120,6 +120,7 @@ fn body_ahead(head: Head, stretch: Stretch<'_>, bits: &mut [u8; 21]) -> Ahead
 }
 
 // Words read from this head on, as its phase asks, if there are any.
+// Stays: (d) `LeftBy` is asked of a head and bits that lie apart (b): a type would have to join them.
 pub fn ahead(head: Head, stretch: Stretch<'_>, bits: &mut [u8; 21]) -> Ahead
     requires { LeftBy (framing_of head bits.old) }
     ensures { ReadAhead (framing_of head bits.old) (framing_of result.head bits.new) (bits_of stretch.entry.bytes.now) stretch.entry.from result.at stretch.entry.to }

@@ -59,6 +59,7 @@ fn check_offer(record: &[u8], store: &[u8], offer: Offer<'_>) -> Answer
 }
 
 // An offer is accepted: its message goes to the start of the circuit's region, and the circuit's slot has it to send.
+// Stays: (d) the circuit and the length are asked of an offer that has just been let pass: as a type this is `accept(record, store, Judged::new(offer))`, taken apart again here.
 #[tactic(auto, using(bits::proofs::Lists::sets_part), unfolding(offering::specs::Offering::offered_store, packet::specs::Stores::region, packet::specs::Messages::longest))]
 fn accept(record: &mut [u8], store: &mut [u8], offer: Offer<'_>)
     requires { (sender_length ≤ length «record».old) × (offer.circuit < 4) × (length offer.message.now ≤ longest)
@@ -74,6 +75,7 @@ fn accept(record: &mut [u8], store: &mut [u8], offer: Offer<'_>)
 }
 
 // A message is offered at a circuit. Of the record only the circuit's slot is written.
+// Stays: (a) a twin, as `block` below, of the call on a record as a value, which document 01 has; (b) in the bytes only what changes is written.
 pub fn offer(record: &mut [u8], store: &mut [u8], offer: Offer<'_>) -> Answer
     requires { sender_length ≤ length «record».old }
     ensures { (result ≡ answer_of (offer_refusal (sender_in «record».old) store.old offer.entry.circuit offer.entry.priority offer.entry.repetition offer.entry.message.now))
