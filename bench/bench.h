@@ -63,11 +63,20 @@ struct plain_system {
 uint32_t plain_sender_list(struct plain_sender *s, const uint8_t *list, size_t list_len);
 uint32_t plain_sender_offer(struct plain_sender *s, uint8_t *store, size_t store_len, uint64_t circuit, uint64_t priority,
                             uint64_t repetition, const uint8_t *message, size_t message_len);
+uint32_t plain_sender_offer_beside(struct plain_sender *s, uint8_t *store, size_t store_len, const uint8_t *buffer, size_t buffer_len,
+                                   uint64_t circuit, uint64_t priority, uint64_t repetition, const uint8_t *message, size_t message_len);
+uint32_t plain_sender_offer_long(struct plain_sender *s, size_t store_len, uint8_t *buffer, size_t buffer_len, uint64_t priority,
+                                 uint64_t repetition, const uint8_t *message, size_t message_len);
 uint32_t plain_sender_block(struct plain_sender *s, const uint8_t *store, size_t store_len, uint64_t n, uint64_t u,
                             const struct plain_system *system, uint8_t *block, size_t block_len, struct plain_block *answer);
+uint32_t plain_sender_block_beside(struct plain_sender *s, const uint8_t *store, size_t store_len, const uint8_t *buffer, size_t buffer_len,
+                                   uint64_t n, uint64_t u, const struct plain_system *system, uint8_t *block, size_t block_len,
+                                   struct plain_block *answer);
 uint32_t plain_receiver_list(struct plain_receiver *r, const uint8_t *list, size_t list_len);
 uint32_t plain_receiver_read(struct plain_receiver *r, uint8_t *store, size_t store_len, const uint8_t *bits, size_t bits_len,
                              uint64_t from, uint64_t to, struct plain_read *answer);
+uint32_t plain_receiver_read_beside(struct plain_receiver *r, uint8_t *store, size_t store_len, uint8_t *buffer, size_t buffer_len,
+                                    const uint8_t *bits, size_t bits_len, uint64_t from, uint64_t to, struct plain_read *answer);
 uint32_t plain_framing_read(struct plain_framing *f, const uint8_t *bits, size_t bits_len, uint64_t from, uint64_t to, uint8_t *packet,
                             struct plain_framing_answer *answer);
 uint32_t plain_totals_note(struct plain_totals *t, const struct plain_read *answer);

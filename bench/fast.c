@@ -4,9 +4,13 @@
 #define plain_receiver_size bitwise_receiver_size
 #define plain_sender_list bitwise_sender_list
 #define plain_sender_offer bitwise_sender_offer
+#define plain_sender_offer_beside bitwise_sender_offer_beside
+#define plain_sender_offer_long bitwise_sender_offer_long
 #define plain_sender_block bitwise_sender_block
+#define plain_sender_block_beside bitwise_sender_block_beside
 #define plain_receiver_list bitwise_receiver_list
 #define plain_receiver_read bitwise_receiver_read
+#define plain_receiver_read_beside bitwise_receiver_read_beside
 #define plain_framing_read bitwise_framing_read
 #define plain_totals_note bitwise_totals_note
 #define plain_line_write bitwise_line_write
@@ -250,7 +254,7 @@ uint32_t fast_sender_block(struct plain_sender *s, const uint8_t *store, size_t 
                            const struct plain_system *system, uint8_t *block, size_t block_len, struct plain_block *answer)
 {
     struct quill q = {block, FLAG, 8, 0, 8};
-    uint32_t refusal = block_refusal(s, store_len, n, u, system, block_len);
+    uint32_t refusal = block_refusal(s, store_len, NULL, 0, n, u, system, block_len);
     if (refusal)
         return refusal;
     make_tables();
@@ -411,7 +415,7 @@ uint32_t fast_receiver_read(struct plain_receiver *r, uint8_t *store, size_t sto
     uint8_t room[ROOM], *body = room + BODY;
     uint64_t at = from;
     int found;
-    if (!receiver_in_range(r))
+    if (!receiver_in_range(r, 0))
         return 14;
     if (store_len < RECEIVER_STORE)
         return 5;
@@ -421,7 +425,7 @@ uint32_t fast_receiver_read(struct plain_receiver *r, uint8_t *store, size_t sto
     memset(answer, 0, sizeof *answer);
     found = next_body_fast(&r->framing, bits, &at, to, body);
     if (found > 0)
-        hear(r, store, body, (size_t)found, answer);
+        hear(r, store, NULL, body, (size_t)found, answer);
     else if (found < 0)
         answer->notice = SPOILT;
     answer->bits = at - from;

@@ -1,10 +1,12 @@
 /* The channel in plain C, bit by bit, as a firmware would have it, and the serial line byte by byte. A record is a struct; each call checks it as
-   refusal 14 asks, but takes any framing as it is. Noting takes any answer as that of a read. */
+   refusal 14 asks, but takes any framing as it is. Noting takes any answer as that of a read. Where a function is given a long buffer, a null pointer
+   says that there is none. */
 #include "bench.h"
 #include <string.h>
 
 enum { CIRCUITS = 4, REGION = 4096, SYSTEM_PLACE = CIRCUITS * REGION, LONGEST = 4094, SEGMENT = 16 };
 enum { SENDER_STORE = CIRCUITS * REGION, RECEIVER_STORE = SYSTEM_PLACE + 16 };
+enum { LONG_HEADER = LONGEST + 1, LONGEST_LONG = 65535, LONG_BUFFER = LONGEST_LONG };
 enum { FLAG = 0x7e, SYSTEM_ADDRESS = 0xff, ALL_ENABLED = 15, FCS_PRESET = 0xffff, FCS_GOOD = 0xf0b8 };
 enum link { BETWEEN, LAST, FIRST, SYSTEM_LINK };
 
@@ -66,6 +68,24 @@ static uint32_t list_circuits(struct circuits *c, const uint8_t *list, size_t le
 static int circuits_in_range(const struct circuits *c)
 {
     return c->count <= CIRCUITS && !circuits_refusal(c);
+}
+
+/* The most bytes that a message of circuit i has. */
+static inline unsigned longest(unsigned i, int has_buffer)
+{
+    return i == 0 && has_buffer ? LONGEST_LONG : LONGEST;
+}
+
+/* Whether a message of that length stands in the long buffer. */
+static inline int is_long(size_t length)
+{
+    return length > LONGEST;
+}
+
+/* Whether a long buffer is given that is too short. */
+static inline int too_short(const uint8_t *buffer, size_t buffer_len)
+{
+    return buffer && buffer_len < LONG_BUFFER;
 }
 
 static inline uint16_t fcs_bit(uint16_t fcs, unsigned bit)
@@ -181,13 +201,13 @@ static int pending(const struct sending *t)
     return t->place < packets(t->length);
 }
 
-static int sender_in_range(const struct plain_sender *s)
+static int sender_in_range(const struct plain_sender *s, int has_buffer)
 {
     if (!circuits_in_range(&s->circuits) || s->last_served >= CIRCUITS || s->enable > ALL_ENABLED)
         return 0;
     for (unsigned i = 0; i < s->circuits.count; i++) {
         const struct sending *t = &s->slots[i];
-        if (t->index > 7 || t->priority > 3 || t->repetition > 5 || t->copy > t->repetition || t->length > LONGEST
+        if (t->index > 7 || t->priority > 3 || t->repetition > 5 || t->copy > t->repetition || t->length > longest(i, has_buffer)
             || t->place > packets(t->length) || t->left != packets(t->length) - t->place)
             return 0;
     }
@@ -197,15 +217,15 @@ static int sender_in_range(const struct plain_sender *s)
 /* The next packet of a circuit: address, control, extension, header, and a part of the message. */
 static void put_packet(struct pen *p, const struct circuit *c, const struct sending *t, const uint8_t *message)
 {
-    unsigned header = header_length(t->length), from = 0, part = SEGMENT, n = 2;
+    unsigned header = header_length(t->length), held = is_long(t->length) ? LONG_HEADER : t->length, from = 0, part = SEGMENT, n = 2;
     enum link link = t->place == 0 ? FIRST : t->place + 1u == packets(t->length) ? LAST : BETWEEN;
     uint8_t head[5] = {c->address, (uint8_t)(link << 6 | c->extended << 5 | t->index << 2 | t->priority)};
     if (c->extended)
         head[n++] = c->extension;
     if (link == FIRST) {
         if (header == 2)
-            head[n++] = (uint8_t)(0x10 | t->length >> 8);
-        head[n++] = (uint8_t)(t->length & 0xff);
+            head[n++] = (uint8_t)(0x10 | held >> 8);
+        head[n++] = (uint8_t)(held & 0xff);
         part -= header;
     } else {
         from = SEGMENT * t->place - header;
@@ -244,13 +264,13 @@ static void serve(struct plain_sender *s, int i)
 }
 
 /* Frames up to bit u: how many. The one that passes u is taken back. */
-static uint32_t fill(struct plain_sender *s, const uint8_t *store, struct pen *p, size_t u)
+static uint32_t fill(struct plain_sender *s, const uint8_t *store, const uint8_t *buffer, struct pen *p, size_t u)
 {
     uint32_t placed = 0;
     int i;
     while ((i = pick(s)) >= 0) {
         struct pen before = *p;
-        put_packet(p, &s->circuits.list[i], &s->slots[i], store + REGION * i);
+        put_packet(p, &s->circuits.list[i], &s->slots[i], is_long(s->slots[i].length) ? buffer : store + REGION * i);
         if (p->at > u) {
             *p = before;
             break;
@@ -271,38 +291,73 @@ uint32_t plain_sender_list(struct plain_sender *s, const uint8_t *list, size_t l
     return list_circuits(&s->circuits, list, list_len);
 }
 
-uint32_t plain_sender_offer(struct plain_sender *s, uint8_t *store, size_t store_len, uint64_t circuit, uint64_t priority,
-                            uint64_t repetition, const uint8_t *message, size_t message_len)
+/* The refusal of an offer by what comes before its message, or 0. */
+static uint32_t offer_refusal(const struct plain_sender *s, size_t store_len, const uint8_t *buffer, size_t buffer_len, uint64_t circuit,
+                              uint64_t priority, uint64_t repetition)
 {
-    struct sending *t;
-    if (!sender_in_range(s))
+    if (!sender_in_range(s, buffer != NULL))
         return 14;
     if (store_len < SENDER_STORE)
         return 5;
+    if (too_short(buffer, buffer_len))
+        return 19;
     if (circuit >= s->circuits.count)
         return 6;
     if (priority > 3)
         return 7;
     if (repetition > 5)
         return 8;
-    if (message_len > LONGEST)
-        return 9;
-    t = &s->slots[circuit];
+    return 0;
+}
+
+/* Takes a message and copies it to its place, or refuses it behind one that is pending. */
+static uint32_t take(struct sending *t, uint64_t priority, uint64_t repetition, uint8_t *place, const uint8_t *message, size_t message_len)
+{
     if (pending(t))
         return 10;
     *t = (struct sending){t->index, (uint8_t)priority, (uint8_t)repetition, 0, (uint16_t)message_len, 0, (uint16_t)packets((unsigned)message_len)};
     if (message_len)
-        memcpy(store + REGION * circuit, message, message_len);
+        memcpy(place, message, message_len);
     return 0;
 }
 
-static uint32_t block_refusal(const struct plain_sender *s, size_t store_len, uint64_t n, uint64_t u,
+uint32_t plain_sender_offer(struct plain_sender *s, uint8_t *store, size_t store_len, uint64_t circuit, uint64_t priority,
+                            uint64_t repetition, const uint8_t *message, size_t message_len)
+{
+    return plain_sender_offer_beside(s, store, store_len, NULL, 0, circuit, priority, repetition, message, message_len);
+}
+
+uint32_t plain_sender_offer_beside(struct plain_sender *s, uint8_t *store, size_t store_len, const uint8_t *buffer, size_t buffer_len,
+                                   uint64_t circuit, uint64_t priority, uint64_t repetition, const uint8_t *message, size_t message_len)
+{
+    uint32_t refusal = offer_refusal(s, store_len, buffer, buffer_len, circuit, priority, repetition);
+    if (refusal)
+        return refusal;
+    if (message_len > LONGEST)
+        return 9;
+    return take(&s->slots[circuit], priority, repetition, store + REGION * circuit, message, message_len);
+}
+
+uint32_t plain_sender_offer_long(struct plain_sender *s, size_t store_len, uint8_t *buffer, size_t buffer_len, uint64_t priority,
+                                 uint64_t repetition, const uint8_t *message, size_t message_len)
+{
+    uint32_t refusal = offer_refusal(s, store_len, buffer, buffer_len, 0, priority, repetition);
+    if (refusal)
+        return refusal;
+    if (!is_long(message_len) || message_len > LONGEST_LONG)
+        return 18;
+    return take(&s->slots[0], priority, repetition, buffer, message, message_len);
+}
+
+static uint32_t block_refusal(const struct plain_sender *s, size_t store_len, const uint8_t *buffer, size_t buffer_len, uint64_t n, uint64_t u,
                               const struct plain_system *system, size_t block_len)
 {
-    if (!sender_in_range(s))
+    if (!sender_in_range(s, buffer != NULL))
         return 14;
     if (store_len < SENDER_STORE)
         return 5;
+    if (too_short(buffer, buffer_len))
+        return 19;
     if (n < 256 || n > 27000 || u < 256 || u > n)
         return 11;
     if (block_len < (n + 7) / 8)
@@ -315,8 +370,15 @@ static uint32_t block_refusal(const struct plain_sender *s, size_t store_len, ui
 uint32_t plain_sender_block(struct plain_sender *s, const uint8_t *store, size_t store_len, uint64_t n, uint64_t u,
                             const struct plain_system *system, uint8_t *block, size_t block_len, struct plain_block *answer)
 {
+    return plain_sender_block_beside(s, store, store_len, NULL, 0, n, u, system, block, block_len, answer);
+}
+
+uint32_t plain_sender_block_beside(struct plain_sender *s, const uint8_t *store, size_t store_len, const uint8_t *buffer, size_t buffer_len,
+                                   uint64_t n, uint64_t u, const struct plain_system *system, uint8_t *block, size_t block_len,
+                                   struct plain_block *answer)
+{
     struct pen p = {block, 0, (n + 7) / 8, 0, 0, 0, 0};
-    uint32_t refusal = block_refusal(s, store_len, n, u, system, block_len);
+    uint32_t refusal = block_refusal(s, store_len, buffer, buffer_len, n, u, system, block_len);
     if (refusal)
         return refusal;
     put_flag(&p);
@@ -326,7 +388,7 @@ uint32_t plain_sender_block(struct plain_sender *s, const uint8_t *store, size_t
         put_frame(&p, head, 3, system->info, system->info_len);
         s->enable = (uint8_t)system->enable;
     }
-    answer->placed = fill(s, store, &p, u);
+    answer->placed = fill(s, store, buffer, &p, u);
     answer->used = (uint32_t)p.at;
     answer->zeros = p.zeros;
     put_rest(&p, n);
@@ -401,7 +463,7 @@ static int next_body(struct plain_framing *f, const uint8_t *bits, uint64_t *at,
 enum notice { END, SPOILT, MALFORMED, SYSTEM, ELSEWHERE, CIRCUIT };
 enum fate { COPY, BEGUN, HELD, WHOLE, ORPHAN, WRONG };
 
-/* A message is open while `place` is below `length`. */
+/* A message is open while `place` is below `length`, which of a long one is the most that it may have. */
 struct hearing {
     uint8_t seen, last;
     uint16_t length, place;
@@ -424,51 +486,62 @@ struct packet {
     size_t length;
 };
 
-static int receiver_in_range(const struct plain_receiver *r)
+static int receiver_in_range(const struct plain_receiver *r, int has_buffer)
 {
     if (!circuits_in_range(&r->circuits))
         return 0;
     for (unsigned i = 0; i < r->circuits.count; i++) {
         const struct hearing *t = &r->slots[i];
-        if (t->seen > 1 || t->last > 7 || t->length > LONGEST || t->place > t->length)
+        if (t->seen > 1 || t->last > 7 || t->length > longest(i, has_buffer) || t->place > t->length)
             return 0;
     }
     return 1;
 }
 
 /* A first packet; no message is open. */
-static enum fate begin(struct hearing *t, uint8_t *region, const uint8_t *segment, size_t n)
+static enum fate begin(struct hearing *t, uint8_t *region, uint8_t *buffer, const uint8_t *segment, size_t n)
 {
     size_t header = segment[0] & 0x10 ? 2 : 1, length = segment[0] & 0x0f;
     if (n < header)
         return WRONG;
     if (header == 2) {
         length = length << 8 | segment[1];
-        if (length < 16 || length > LONGEST)
+        if (length == LONG_HEADER && buffer)
+            length = LONGEST_LONG;
+        else if (length < 16 || length > LONGEST)
             return WRONG;
     }
     if (n - header > length || (n - header < length && n < SEGMENT))
         return WRONG;
-    memcpy(region, segment + header, n - header);
+    memcpy(is_long(length) ? buffer : region, segment + header, n - header);
     t->length = (uint16_t)length;
     t->place = (uint16_t)(n - header);
     return n - header == length ? WHOLE : BEGUN;
 }
 
-/* A packet between, or the last one. */
-static enum fate go_on(struct hearing *t, uint8_t *region, enum link link, const uint8_t *segment, size_t n)
+/* Whether n bytes end the open message, of which so many are due: a long one may be shorter, but not as short as others. */
+static int ends(const struct hearing *t, size_t due, size_t n)
+{
+    return is_long(t->length) ? n <= due && is_long(t->place + n) : n == due;
+}
+
+/* A packet between, or the last one, which tells the length of a long message. */
+static enum fate go_on(struct hearing *t, uint8_t *region, uint8_t *buffer, enum link link, const uint8_t *segment, size_t n)
 {
     size_t due = t->length - t->place;
     if (due == 0)
         return ORPHAN;
-    if (link == LAST ? n != due : n != SEGMENT || due <= SEGMENT)
+    if (link == LAST ? !ends(t, due, n) : n != SEGMENT || due <= SEGMENT)
         return WRONG;
-    memcpy(region + t->place, segment, n);
+    memcpy((is_long(t->length) ? buffer : region) + t->place, segment, n);
     t->place = (uint16_t)(t->place + n);
-    return link == LAST ? WHOLE : HELD;
+    if (link != LAST)
+        return HELD;
+    t->length = t->place;
+    return WHOLE;
 }
 
-static void hear_circuit(struct hearing *t, uint8_t *region, const struct packet *p, struct plain_read *told)
+static void hear_circuit(struct hearing *t, uint8_t *region, uint8_t *buffer, const struct packet *p, struct plain_read *told)
 {
     unsigned index = p->control >> 2 & 7;
     enum fate fate;
@@ -478,7 +551,7 @@ static void hear_circuit(struct hearing *t, uint8_t *region, const struct packet
         told->loss_or_code = (index - t->last - 1u) & 7;
     if (told->loss_or_code || p->link == FIRST)
         t->length = t->place = 0;
-    fate = p->link == FIRST ? begin(t, region, p->segment, p->length) : go_on(t, region, p->link, p->segment, p->length);
+    fate = p->link == FIRST ? begin(t, region, buffer, p->segment, p->length) : go_on(t, region, buffer, p->link, p->segment, p->length);
     if (fate == WHOLE)
         told->length = t->length;
     if (fate == WHOLE || fate == WRONG)
@@ -502,7 +575,7 @@ static void hear_system(uint8_t *store, const struct packet *p, struct plain_rea
 }
 
 /* The notice of a packet of n bytes, at least two, that passed. */
-static void hear(struct plain_receiver *r, uint8_t *store, const uint8_t *bytes, size_t n, struct plain_read *told)
+static void hear(struct plain_receiver *r, uint8_t *store, uint8_t *buffer, const uint8_t *bytes, size_t n, struct plain_read *told)
 {
     unsigned control = bytes[1], extended = control >> 5 & 1, lead = 2 + extended, i = 0;
     struct packet p = {{bytes[0], (uint8_t)extended, 0}, control >> 6, control, bytes + lead, n - lead};
@@ -525,7 +598,7 @@ static void hear(struct plain_receiver *r, uint8_t *store, const uint8_t *bytes,
     }
     told->notice = CIRCUIT;
     told->number_or_enable = (uint8_t)i;
-    hear_circuit(&r->slots[i], store + REGION * i, &p, told);
+    hear_circuit(&r->slots[i], store + REGION * i, i == 0 ? buffer : NULL, &p, told);
 }
 
 /* ---- reading: the calls */
@@ -545,18 +618,26 @@ static int outside(uint64_t from, uint64_t to, size_t bits_len)
 uint32_t plain_receiver_read(struct plain_receiver *r, uint8_t *store, size_t store_len, const uint8_t *bits, size_t bits_len,
                              uint64_t from, uint64_t to, struct plain_read *answer)
 {
+    return plain_receiver_read_beside(r, store, store_len, NULL, 0, bits, bits_len, from, to, answer);
+}
+
+uint32_t plain_receiver_read_beside(struct plain_receiver *r, uint8_t *store, size_t store_len, uint8_t *buffer, size_t buffer_len,
+                                    const uint8_t *bits, size_t bits_len, uint64_t from, uint64_t to, struct plain_read *answer)
+{
     uint64_t at = from;
     int found;
-    if (!receiver_in_range(r))
+    if (!receiver_in_range(r, buffer != NULL))
         return 14;
     if (store_len < RECEIVER_STORE)
         return 5;
+    if (too_short(buffer, buffer_len))
+        return 19;
     if (outside(from, to, bits_len))
         return 15;
     memset(answer, 0, sizeof *answer);
     found = next_body(&r->framing, bits, &at, to);
     if (found > 0)
-        hear(r, store, r->framing.body, (size_t)found, answer);
+        hear(r, store, buffer, r->framing.body, (size_t)found, answer);
     else if (found < 0)
         answer->notice = SPOILT;
     answer->bits = at - from;

@@ -8,18 +8,24 @@
  * the static library libaes18.a for x86-64, which `tools/staticlib` has proved and writes; docs/PROOFS.md says what is proved of them. Document 01 is
  * the specification: refusals have its numbers, and its words stand in quotation marks. The totals are those of document 02, ask 1; the serial line,
  * with refusals 16 and 17, is that of its ask 3; that enable bits hold over from block to block is its ask 4; the packets still to go in a sender's
- * record are those of its ask 5, and the stuffed zeros in a block's answer those of its ask 6. No document asks for the framing's call; what it reads
- * is what document 01 says of flags and bodies.
+ * record are those of its ask 5, the stuffed zeros in a block's answer those of its ask 6, and messages above 4094 bytes, with refusals 18 and 19,
+ * those of its ask 7. No document asks for the framing's call; what it reads is what document 01 says of flags and bodies.
+ *
+ * Long messages. A message of 4095 to 65535 bytes is a long one. It is sent and received at circuit number 0 alone, by ends that are lent a long buffer
+ * of 65535 bytes or more beside their store. aes18_sender_offer_long takes it; the other calls of an end that has such a buffer are those whose names
+ * end in _beside, and do for all other messages what the calls without a buffer do.
  *
  * What is lent. Every array is lent as a pointer and its length in bytes, for the time of the call. With length 0 any pointer will do, a null
- * pointer too, and is not followed. An array that a call writes (record, framing, totals, block, the store of an offer and of a read, the line of a
- * line write, the packet of a framing read and of a line read, and the answer of a block, a read, a framing read, a line write and a line read) must
- * not overlap any other array of the same call. Arrays that are only read may overlap each other.
+ * pointer too, and is not followed. An array that a call writes (record, framing, totals, block, the store of a read and of every offer but a long one,
+ * the buffer of a long offer and of a read, the line of a line write, the packet of a framing read and of a line read, and the answer of a block, a
+ * read, a framing read, a line write and a line read) must not overlap any other array of the same call: a long message is offered from elsewhere than
+ * the buffer. Arrays that are only read may overlap each other.
  *
- * Ends. All that a sender or a receiver is stands in its record and its store. The calls keep no other state, take no memory from the system
- * and wait for nothing, so calls for different ends may interrupt each other or run at the same time. Each end lends the record as the call
- * before left it, and the same store in all its calls; nobody else writes either in between. A record of totals, a framing and the record of a
- * line's reader are lent in the same way.
+ * Ends. All that a sender or a receiver is stands in its record, its store and, if it has one, its long buffer. The calls keep no other state, take no
+ * memory from the system and wait for nothing, so calls for different ends may interrupt each other or run at the same time. Each end lends the record
+ * as the call before left it, and the same store in all its calls; nobody else writes either in between. And of the buffer document 02 says: "From its
+ * listing on, an end has this buffer, the same one, in all its calls or in none, and nobody else writes it between them." A record of totals, a framing
+ * and the record of a line's reader are lent as an end's record is.
  *
  * Answers. Every call returns AES18_ACCEPTED or the number of a refusal, for any input; nothing has to be checked before. A refused call leaves
  * every lent byte as it was, but for a refused listing, which writes the record of no circuits.
@@ -27,8 +33,8 @@
  * Bits. Bit k of a block, or of bits lent for reading, is the bit of value 1 << (k % 8) in byte k / 8: a byte's lowest bit is sent first.
  * Numbers of several bytes, in answers and records, have their lowest byte first.
  *
- * Other makers' gear. Flags, frames, packets and system packets are those of BS.776. In these places document 01 decides otherwise than BS.776, whose
- * sections stand in brackets:
+ * Other makers' gear. Flags, frames, packets and system packets are those of BS.776. In these places documents 01 and 02 decide otherwise than BS.776,
+ * whose sections stand in brackets:
  *   Message continuity index [5.2.1.1]. BS.776 counts the messages of an application modulo 8 in bits A7 to A5 of a message's header. Here they are
  *     sent as 0 and not looked at: a receiver of another make that tells lost messages by them is misled. Losses are told by the packet continuity
  *     index [5.2.2.1], up to six in a row; BS.776 counts seven [4.5], but the last packet's index again is a copy's.
@@ -40,10 +46,14 @@
  *   Packets in a block [6.3.2.1]. BS.776 has a table of the most packets of a message that a block takes, by priority and block length; where that is
  *     less than one, a rule spreads them over several blocks. Here there is neither: a block takes packets by priority as long as they fit, and
  *     may leave no room to gear behind it. A smaller u, the enable bits in force and the time of an offer hold packets back.
- * And this is not covered: messages above 4094 bytes or of unknown length [5.2.1.2], at which a receiver tells WRONG; inserting packets into blocks
- * that are made already [6.3.1]; and the channel status, which has to tell of this use of the user bits [5.2.4.2]. An address extension of a system
- * packet [6.2.1.2] is never sent, and skipped by a receiver. Whether the enable bits of a system packet [6.2.1.1] rule later blocks that have none,
- * BS.776 does not say; here they do, and gear that takes each block by itself needs a system packet in every block.
+ *   Message length [5.2.1.2]. BS.776 codes a length that is above 4094 bytes or unknown as 4095, and the message's first and last packets are its limits
+ *     then. A long message is just such a one, with the header 1F FF in base 16: a receiver of another make takes it if it has the room. BS.776 has
+ *     these messages at every address and of any length; here they go over at circuit number 0, with a long buffer, and have 4095 to 65535 bytes. On
+ *     these terms those of another maker's sender are handed over too, whether it knew their length or not, and others are not.
+ * And this is not covered: sending a message whose length is not known when it is offered [5.2.1.2]; inserting packets into blocks that are made
+ * already [6.3.1]; and the channel status, which has to tell of this use of the user bits [5.2.4.2]. An address extension of a system packet [6.2.1.2]
+ * is never sent, and skipped by a receiver. Whether the enable bits of a system packet [6.2.1.1] rule later blocks that have none, BS.776 does not say;
+ * here they do, and gear that takes each block by itself needs a system packet in every block.
  */
 #ifndef AES18_H
 #define AES18_H
@@ -56,14 +66,15 @@ extern "C" {
 #endif
 
 /*
- * Lengths in bytes of what is lent. Records, stores and answers may be longer; the bytes behind are not looked at and keep their values. Header and
- * archive have to be of one version: an archive made before a record or an answer grew takes the longer one too, lays it out as before and leaves its
- * last bytes unwritten.
+ * Lengths in bytes of what is lent. Records, stores, long buffers and answers may be longer; the bytes behind are not looked at and keep their values.
+ * Header and archive have to be of one version: an archive made before a record or an answer grew takes the longer one too, lays it out as before and
+ * leaves its last bytes unwritten.
  */
 #define AES18_SENDER_RECORD 55
 #define AES18_RECEIVER_RECORD 61
 #define AES18_SENDER_STORE 16384
 #define AES18_RECEIVER_STORE 16400
+#define AES18_LONG_BUFFER 65535
 #define AES18_BLOCK_ANSWER 12
 #define AES18_READ_ANSWER 16
 #define AES18_FRAMING_RECORD 24
@@ -77,6 +88,9 @@ extern "C" {
  * The store. Region c begins at byte 4096 * c and belongs to circuit number c, 0 to 3. At a sender the message last taken stands at the start of
  * the region; blocks are made from there while a copy of it is to be placed. At a receiver message bytes are collected from the region's start, and
  * the 16 bytes from byte 16384 on, the system place, hold the information of the system packet last heard.
+ *
+ * The long buffer. It belongs to circuit number 0, as region 0 of the store does. A message of circuit 0 that is longer than 4094 bytes stands at the
+ * start of the buffer, or is collected there, and any other in the region. A message that goes to one of the two leaves the other as it is.
  */
 #define AES18_REGION 4096
 #define AES18_SYSTEM_PLACE 16384
@@ -90,6 +104,8 @@ extern "C" {
 
 /* What the calls take: a message in bytes, its priority (3 is the highest) and repetition; a block in bits and in bytes; a system packet. */
 #define AES18_LONGEST_MESSAGE 4094
+#define AES18_SHORTEST_LONG_MESSAGE 4095
+#define AES18_LONGEST_LONG_MESSAGE 65535
 #define AES18_HIGHEST_PRIORITY 3
 #define AES18_MOST_REPETITIONS 5
 #define AES18_FEWEST_BLOCK_BITS 256
@@ -130,12 +146,14 @@ extern "C" {
 #define AES18_REFUSED_BITS 15       /* "from above to, or to past the bytes lent" */
 #define AES18_REFUSED_LINE 16       /* "output shorter than that": than "the worst case, 2 bytes for each packet and FCS byte plus 2 flags" */
 #define AES18_REFUSED_PACKET 17     /* "a packet outside 2 to 19 bytes, looked at before 16" */
+#define AES18_REFUSED_LONG_LENGTH 18 /* "length outside 4,095 to 65,535, in place of 9" */
+#define AES18_REFUSED_LONG_BUFFER 19 /* "long buffer too short, after 5 in every call given one" */
 #define AES18_REFUSED_SHORT 255     /* the record, the answer, or the packet's place of a framing or line read is shorter than it has to be */
 
 /*
- * Records. A record is a value: it may be copied, and a copy of record and store together is a copy of the end. Its layout is told for those who
- * display it or look into it. It is no storage format, and a later version may lay records out differently; what is worth keeping of a pass is
- * its user bits.
+ * Records. A record is a value: it may be copied, and a copy of record, store and long buffer together is a copy of the end. Its layout is told for
+ * those who display it or look into it. It is no storage format, and a later version may lay records out differently; what is worth keeping of a pass
+ * is its user bits.
  *
  * The sender's record, 55 bytes:
  *   0        number of circuits, 0 to 4
@@ -145,7 +163,7 @@ extern "C" {
  *              1     priority of its last message, 0 to 3
  *              2     repetition of its last message, 0 to 5
  *              3     copy: how many copies are placed of the packet that is next, at most the repetition
- *              4, 5  length of its last message, 0 to 4094
+ *              4, 5  length of its last message, 0 to 4094; at number 0, in a call that is given a long buffer, 0 to 65535
  *              6, 7  place: how many packets of that message have every copy placed
  *              8, 9  left: the packets still to go, how many packets of that message have some copy still to place
  *            A message of up to 15 bytes has 1 packet, a longer one of n bytes (n + 17) / 16, rounded down. Place is never above this number, and
@@ -161,9 +179,10 @@ extern "C" {
  *   13 to 36 for each circuit number 6 bytes:
  *              0     1 if a packet of it came, else 0
  *              1     continuity index of the last packet that came, 0 to 7
- *              2, 3  length of the open message, 0 to 4094
+ *              2, 3  length of the open message, 0 to 4094; at number 0, in a call that is given a long buffer, 0 to 65535
  *              4, 5  place: how many bytes of it are written
- *            A message is open exactly if place is below length, and place is never above it; where none is open, calls leave both 0.
+ *            A message is open exactly if place is below length, and place is never above it; where none is open, calls leave both 0. An open long
+ *            message, whose length its header does not tell, has the most that it may have: 65535 in records made by calls.
  *   37 to 60 framing, what is kept between one bit and the next:
  *              37       phase: 0 no zero is read that could begin a flag (at first, and after seven ones); 1 outside a body, behind such a zero;
  *                       in a body: 2 the last zero is the opening flag's own, 3 it is a plain bit, 4 it stands behind five ones
@@ -175,7 +194,9 @@ extern "C" {
  * Out of range, and refused by RECORD, are: more than four circuits, circuits that a listing refuses by ADDRESS, EXTENSION or ALIKE, a number of a
  * listed circuit outside what stands here, so also a left that is not its message's packets less place, a circuit last served above 3, enable bits in
  * force above 15, a framing that no bits leave, and in a receiver's record, at any circuit number, 2 or more where a byte tells whether a packet came.
- * Nothing else is judged at numbers that are not listed.
+ * Nothing else is judged at numbers that are not listed. A call is given a long buffer if it has the parameter, however few bytes are lent there. The
+ * record of an end that has one is out of range for the calls without: a sender's from a long offer on until a message of up to 4094 bytes is taken at
+ * circuit number 0, a receiver's while a long message is open.
  *
  * A framing alone, 24 bytes, is that of a receiver's record, its bytes 37 to 60: phase, ones, count, and 21 bytes of bits. A fresh one is 24 times 0,
  * which a caller writes itself. Out of range is one that no bits leave.
@@ -215,6 +236,22 @@ uint32_t aes18_sender_offer(uint8_t *record, size_t record_len, uint8_t *store, 
                             uint64_t repetition, const uint8_t *message, size_t message_len);
 
 /*
+ * aes18_sender_offer of a sender that has a long buffer. Of the buffer only the length is looked at.
+ * Refusals, in order: SHORT, RECORD, STORE, LONG_BUFFER, CIRCUIT, PRIORITY, REPETITION, MESSAGE, PENDING.
+ */
+uint32_t aes18_sender_offer_beside(uint8_t *record, size_t record_len, uint8_t *store, size_t store_len, const uint8_t *buffer, size_t buffer_len,
+                                   uint64_t circuit, uint64_t priority, uint64_t repetition, const uint8_t *message, size_t message_len);
+
+/*
+ * Offers a long message, of 4095 to 65535 bytes, at circuit number 0. It is copied to the start of the buffer, of which the bytes behind keep their
+ * values; of the store only the length is looked at. All else is as with a shorter message, which aes18_sender_offer_beside takes: circuit 0 takes its
+ * next message, long or not, when the last copy of the one before is placed.
+ * Refusals, in order: SHORT, RECORD, STORE, LONG_BUFFER, CIRCUIT (no circuit is listed), PRIORITY, REPETITION, LONG_LENGTH, PENDING.
+ */
+uint32_t aes18_sender_offer_long(uint8_t *record, size_t record_len, const uint8_t *store, size_t store_len, uint8_t *buffer, size_t buffer_len,
+                                 uint64_t priority, uint64_t repetition, const uint8_t *message, size_t message_len);
+
+/*
  * Makes a block of n user bits, of which the first u may be used, and writes it to the (n + 7) / 8 first bytes of `block`. Spare bits of the last
  * of them are 0; bytes behind it keep their values. In the block are a flag, the system packet's frame and a flag if one is wanted, then frames of
  * packets that wait and whose priority is enabled, the highest first, each with a flag after it, as long as they do not pass u, and ones up to n.
@@ -234,6 +271,15 @@ uint32_t aes18_sender_block(uint8_t *record, size_t record_len, const uint8_t *s
                             uint64_t enable, uint64_t code, const uint8_t *info, size_t info_len, uint8_t *block, size_t block_len, uint8_t *answer,
                             size_t answer_len);
 
+/*
+ * aes18_sender_block of a sender that has a long buffer, from whose start the packets of a long message are made. Where none waits, only the length of
+ * the buffer is looked at.
+ * Refusals, in order: SHORT, RECORD, STORE, LONG_BUFFER, BLOCK, BUFFER, SYSTEM.
+ */
+uint32_t aes18_sender_block_beside(uint8_t *record, size_t record_len, const uint8_t *store, size_t store_len, const uint8_t *buffer,
+                                   size_t buffer_len, uint64_t n, uint64_t u, uint64_t system, uint64_t enable, uint64_t code, const uint8_t *info,
+                                   size_t info_len, uint8_t *block, size_t block_len, uint8_t *answer, size_t answer_len);
+
 /* Where the numbers stand in a block's answer. */
 #define AES18_BLOCK_PLACED 0
 #define AES18_BLOCK_USED 4
@@ -246,8 +292,8 @@ uint32_t aes18_sender_block(uint8_t *record, size_t record_len, const uint8_t *s
  *     record[AES18_SENDER_LEFT + AES18_SENDER_CIRCUIT_BYTES * c] + 256 * record[AES18_SENDER_LEFT + AES18_SENDER_CIRCUIT_BYTES * c + 1]
  *
  * packets still to go. This is 0 exactly where nothing is pending, so where no offer is refused by PENDING. An accepted offer sets it to the number of
- * the message's packets, 1 to 256. Copies are not counted: a packet counts until its last copy is placed. A panel reads the record between calls: while
- * one runs, its bytes may be half written.
+ * the message's packets, 1 to 256, and of a long one 257 to 4097. Copies are not counted: a packet counts until its last copy is placed. A panel reads
+ * the record between calls: while one runs, its bytes may be half written.
  */
 #define AES18_SENDER_LEFT 21
 #define AES18_SENDER_CIRCUIT_BYTES 10
@@ -288,6 +334,21 @@ uint32_t aes18_receiver_list(uint8_t *record, size_t record_len, const uint8_t *
  */
 uint32_t aes18_receiver_read(uint8_t *record, size_t record_len, uint8_t *store, size_t store_len, const uint8_t *bits, size_t bits_len,
                              uint64_t from, uint64_t to, uint8_t *answer, size_t answer_len);
+
+/*
+ * aes18_receiver_read of a receiver that has a long buffer. Here a first packet of circuit number 0 whose header has the length 4095 is BEGUN if its
+ * segment has 16 bytes, and WRONG if not. Its message is ended by the packet that is last: WHOLE if it then has 4095 to 65535 bytes, else WRONG. A packet
+ * between is WRONG if with it the message has 65535 bytes or more. Its bytes are collected from the buffer's start on, and none of them in the store.
+ *
+ * At WHOLE the length tells where the message is handed over: up to AES18_LONGEST_MESSAGE in the circuit's region, and above that at the start of the
+ * buffer, where it stays until a later read tells BEGUN at circuit 0. BEGUN, HELD, WHOLE and SYSTEM change nothing else in store and buffer.
+ *
+ * No loss above 6 is told. Where more packets in a row are lost inside a message, the length in its header mostly betrays it, and WRONG is told. A long
+ * message has no such length: it may then be handed over without the bytes of the packets lost.
+ * Refusals, in order: SHORT, RECORD, STORE, LONG_BUFFER, BITS.
+ */
+uint32_t aes18_receiver_read_beside(uint8_t *record, size_t record_len, uint8_t *store, size_t store_len, uint8_t *buffer, size_t buffer_len,
+                                    const uint8_t *bits, size_t bits_len, uint64_t from, uint64_t to, uint8_t *answer, size_t answer_len);
 
 /* Where the numbers stand in a read's answer. */
 #define AES18_READ_NOTICE 0

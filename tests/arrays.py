@@ -1,6 +1,7 @@
 """The framer "is to hold no packet or FCS in an array before stuffing" (document 02, ask 2), and none comes back: in what the compiler makes of the sources
 of `sender` and of every crate below it (rt check --generated), no parameter, result, local or field is an array, whatever its elements, but of circuits and of slots, a
-record's circuits as a list's bytes, the one into which a frame is stuffed to measure it, and the names that a derived Debug writes.
+record's circuits as a list's bytes, the one into which a frame is stuffed to measure it, the one of no bytes that is lent where no long buffer is given, and the names that a derived Debug
+writes.
 Before that the same is asked of functions that are known to have an array or none.
 """
 import pathlib
@@ -19,8 +20,11 @@ OTHERS = {"[%s; 4]" % name for name in ("packet::Circuit", "offering::Slot")}
 NAMED = {"sender::blocks::fits": "[u8; 27]"}
 NAMED.update({"packet::Circuits::" + name: "[u8; 12]" for name in ("bytes", "number_of", "check")})
 
+# Where no long buffer is given, one of no bytes is lent.
+NAMED.update({"offering::Sender::offer": "[u8; 0]", "packet::Stores::alone": "[u8; 0]"})
+
 # A derived Debug has the names of a type and of its fields or variants as text.
-NAMED.update({"packet::CircuitDebug::fmt": "[u8; 36]", "packet::LinkDebug::fmt": "[u8; 25]", "packet::RefusalDebug::fmt": "[u8; 208]", "sender::BlockDebug::fmt": "[u8; 25]"})
+NAMED.update({"packet::CircuitDebug::fmt": "[u8; 36]", "packet::LinkDebug::fmt": "[u8; 25]", "packet::RefusalDebug::fmt": "[u8; 229]", "sender::BlockDebug::fmt": "[u8; 25]"})
 
 # Functions that have an array, and functions that have none.
 WITH = """

@@ -1,243 +1,11 @@
 /*
- * The edges of the interface, called from C (tests/c builds and runs this). Every array is lent so that it ends at a page that must not be touched,
- * with known bytes before it, and after every call what must not change is compared. A failed comparison is printed with its line.
+ * The edges of the interface, called from C (tests/c builds and runs this); the calls are those of c-calls.h. What is tested of ends is so without a long
+ * buffer and beside one, where nothing is different as long as no message is long. Long messages are in c-long.c.
  */
-#define _DEFAULT_SOURCE
-#include "aes18.h"
+#include "c-calls.h"
 
-#include <stdio.h>
 #include <stdlib.h>
 #include <string.h>
-#include <sys/mman.h>
-
-enum { PAGE = 4096, ARENA = 5 * PAGE, BEFORE = 0xA5, OLD = 0x5A };
-
-/*
- * The arrays of a call. RECORD is that of an end, of totals or of a line's reader, or a framing; INPUT a list, a message, system information, bits, an
- * answer to note, a packet to write or a line to read. What a call makes stands in BLOCK, which has another name where it is a line or a packet.
- */
-enum { RECORD, STORE, INPUT, BLOCK, ANSWER, ARRAYS, LINE = BLOCK, PACKET = BLOCK };
-
-struct call {
-    uint8_t bytes[ARRAYS][ARENA];
-    size_t length[ARRAYS];
-    uint64_t circuit, priority, repetition;
-    uint64_t n, u, system, enable, code;
-    uint64_t from, to;
-};
-
-/* One of the nine functions, and the arrays that it writes where it accepts and where it refuses. */
-struct function {
-    uint32_t (*run)(const struct call *c, uint8_t *const at[ARRAYS]);
-    unsigned writes, writes_refused;
-    size_t record, store, answer;
-};
-
-static uint8_t *arenas[ARRAYS]; /* each between two pages that must not be touched */
-static uint8_t *nowhere;        /* where an array of no bytes is said to be */
-static int failures, refused[256], noticed[6], became[6];
-
-static void is(int line, uint64_t found, uint64_t wanted)
-{
-    if (found == wanted)
-        return;
-    printf("tests/c-interface.c:%d: %lu where %lu is wanted\n", line, (unsigned long)found, (unsigned long)wanted);
-    failures++;
-}
-
-static void equal(int line, const uint8_t *found, const uint8_t *wanted, size_t length)
-{
-    size_t i = 0;
-
-    while (i < length && found[i] == wanted[i])
-        i++;
-    if (i == length)
-        return;
-    printf("tests/c-interface.c:%d: byte %lu is %u where %u is wanted\n", line, (unsigned long)i, found[i], wanted[i]);
-    failures++;
-}
-
-/* All bytes are the same. */
-static void all(int line, const uint8_t *found, uint8_t wanted, size_t length)
-{
-    size_t i = 0;
-
-    while (i < length && found[i] == wanted)
-        i++;
-    is(line, i, length);
-}
-
-#define COUNT(array) (sizeof array / sizeof array[0])
-#define IS(found, wanted) is(__LINE__, found, wanted)
-#define EQUAL(found, wanted, length) equal(__LINE__, found, wanted, length)
-#define ALL(found, wanted, length) all(__LINE__, found, wanted, length)
-
-static uint32_t sender_list(const struct call *c, uint8_t *const at[ARRAYS])
-{
-    return aes18_sender_list(at[RECORD], c->length[RECORD], at[INPUT], c->length[INPUT]);
-}
-
-static uint32_t sender_offer(const struct call *c, uint8_t *const at[ARRAYS])
-{
-    return aes18_sender_offer(at[RECORD], c->length[RECORD], at[STORE], c->length[STORE], c->circuit, c->priority, c->repetition, at[INPUT],
-                              c->length[INPUT]);
-}
-
-static uint32_t sender_block(const struct call *c, uint8_t *const at[ARRAYS])
-{
-    return aes18_sender_block(at[RECORD], c->length[RECORD], at[STORE], c->length[STORE], c->n, c->u, c->system, c->enable, c->code, at[INPUT],
-                              c->length[INPUT], at[BLOCK], c->length[BLOCK], at[ANSWER], c->length[ANSWER]);
-}
-
-static uint32_t receiver_list(const struct call *c, uint8_t *const at[ARRAYS])
-{
-    return aes18_receiver_list(at[RECORD], c->length[RECORD], at[INPUT], c->length[INPUT]);
-}
-
-static uint32_t receiver_read(const struct call *c, uint8_t *const at[ARRAYS])
-{
-    return aes18_receiver_read(at[RECORD], c->length[RECORD], at[STORE], c->length[STORE], at[INPUT], c->length[INPUT], c->from, c->to, at[ANSWER],
-                               c->length[ANSWER]);
-}
-
-static uint32_t framing_read(const struct call *c, uint8_t *const at[ARRAYS])
-{
-    return aes18_framing_read(at[RECORD], c->length[RECORD], at[INPUT], c->length[INPUT], c->from, c->to, at[PACKET], c->length[PACKET], at[ANSWER],
-                              c->length[ANSWER]);
-}
-
-static uint32_t totals_note(const struct call *c, uint8_t *const at[ARRAYS])
-{
-    return aes18_totals_note(at[RECORD], c->length[RECORD], at[INPUT], c->length[INPUT]);
-}
-
-static uint32_t line_write(const struct call *c, uint8_t *const at[ARRAYS])
-{
-    return aes18_line_write(at[INPUT], c->length[INPUT], at[LINE], c->length[LINE], at[ANSWER], c->length[ANSWER]);
-}
-
-static uint32_t line_read(const struct call *c, uint8_t *const at[ARRAYS])
-{
-    return aes18_line_read(at[RECORD], c->length[RECORD], at[INPUT], c->length[INPUT], at[PACKET], c->length[PACKET], at[ANSWER],
-                           c->length[ANSWER]);
-}
-
-static const struct function list_sender = {sender_list, 1 << RECORD, 1 << RECORD, AES18_SENDER_RECORD, 0, 0};
-static const struct function offer = {sender_offer, 1 << RECORD | 1 << STORE, 0, AES18_SENDER_RECORD, AES18_SENDER_STORE, 0};
-static const struct function block = {
-    sender_block, 1 << RECORD | 1 << BLOCK | 1 << ANSWER, 0, AES18_SENDER_RECORD, AES18_SENDER_STORE, AES18_BLOCK_ANSWER};
-static const struct function list_receiver = {receiver_list, 1 << RECORD, 1 << RECORD, AES18_RECEIVER_RECORD, 0, 0};
-static const struct function reading = {
-    receiver_read, 1 << RECORD | 1 << STORE | 1 << ANSWER, 0, AES18_RECEIVER_RECORD, AES18_RECEIVER_STORE, AES18_READ_ANSWER};
-static const struct function framing_reading = {
-    framing_read, 1 << RECORD | 1 << PACKET | 1 << ANSWER, 0, AES18_FRAMING_RECORD, 0, AES18_FRAMING_ANSWER};
-static const struct function noting = {totals_note, 1 << RECORD, 0, AES18_TOTALS_RECORD, 0, 0};
-static const struct function line_writing = {line_write, 1 << LINE | 1 << ANSWER, 0, 0, 0, AES18_LINE_WRITE_ANSWER};
-static const struct function line_reading = {
-    line_read, 1 << RECORD | 1 << PACKET | 1 << ANSWER, 0, AES18_LINE_RECORD, 0, AES18_LINE_READ_ANSWER};
-
-static void make_arenas(void)
-{
-    int a;
-
-    for (a = 0; a < ARRAYS; a++) {
-        uint8_t *pages = (uint8_t *)mmap(NULL, ARENA + 2 * PAGE, PROT_NONE, MAP_PRIVATE | MAP_ANONYMOUS, -1, 0);
-
-        if (pages == MAP_FAILED || mprotect(pages + PAGE, ARENA, PROT_READ | PROT_WRITE) != 0) {
-            perror("tests/c-interface.c: mmap");
-            exit(EXIT_FAILURE);
-        }
-        arenas[a] = pages + PAGE;
-    }
-}
-
-/* Lends a copy of every array, calls, compares what must not have changed, and takes back what may have. */
-static uint32_t call(int line, struct call *c, const struct function *f)
-{
-    uint8_t *at[ARRAYS];
-    uint32_t refusal;
-    unsigned writes;
-    int a;
-
-    for (a = 0; a < ARRAYS; a++) {
-        size_t free = ARENA - c->length[a];
-
-        memset(arenas[a], BEFORE, free);
-        memcpy(arenas[a] + free, c->bytes[a], c->length[a]);
-        at[a] = c->length[a] == 0 ? nowhere : arenas[a] + free;
-    }
-    refusal = f->run(c, at);
-    writes = refusal == AES18_ACCEPTED ? f->writes : refusal == AES18_REFUSED_SHORT ? 0 : f->writes_refused;
-    for (a = 0; a < ARRAYS; a++) {
-        size_t free = ARENA - c->length[a];
-
-        all(line, arenas[a], BEFORE, free);
-        if (writes >> a & 1)
-            memcpy(c->bytes[a], arenas[a] + free, c->length[a]);
-        else
-            equal(line, arenas[a] + free, c->bytes[a], c->length[a]);
-    }
-    refused[refusal & 255] = 1;
-    return refusal;
-}
-
-#define CALL(c, f, wanted) is(__LINE__, call(__LINE__, c, f), wanted)
-
-static void put(struct call *c, int array, const void *bytes, size_t length)
-{
-    memcpy(c->bytes[array], bytes, length);
-    c->length[array] = length;
-}
-
-/* All arrays hold old bytes; record, store and answer are as long as the function has them. */
-static void prepare(struct call *c, const struct function *f)
-{
-    memset(c->bytes, OLD, sizeof c->bytes);
-    memset(c->length, 0, sizeof c->length);
-    c->length[RECORD] = f->record;
-    c->length[STORE] = f->store;
-    c->length[ANSWER] = f->answer;
-}
-
-/* A freshly listed end, ready to call a function. */
-static void prepare_listed(struct call *c, const struct function *list, const struct function *f, const void *circuits, size_t length)
-{
-    prepare(c, list);
-    put(c, INPUT, circuits, length);
-    CALL(c, list, AES18_ACCEPTED);
-    c->length[STORE] = f->store;
-    c->length[ANSWER] = f->answer;
-}
-
-/* Numbers above the highest one accepted, some of which are equal to it in their low bytes, are refused. The highest one is left there. */
-static void too_high(int line, struct call *c, const struct function *f, uint64_t *number, uint64_t highest, uint32_t refusal)
-{
-    const uint64_t numbers[] = {highest + 1, highest + 256, highest + 65536, highest + 4294967296u, UINT64_MAX};
-    size_t i;
-
-    for (i = 0; i < COUNT(numbers); i++) {
-        *number = numbers[i];
-        is(line, call(line, c, f), refusal);
-    }
-    *number = highest;
-}
-
-#define TOO_HIGH(c, f, number, highest, refusal) too_high(__LINE__, c, f, number, highest, refusal)
-
-/* A number of `size` bytes, lowest first. */
-static uint64_t number(const uint8_t *bytes, size_t size)
-{
-    uint64_t value = 0;
-
-    while (size-- > 0)
-        value = value << 8 | bytes[size];
-    return value;
-}
-
-static const uint8_t two_circuits[] = {0x01, 0, 0, 0x02, 1, 0x07};
-
-/* The circuit part of the record of two_circuits. */
-static const uint8_t two_listed[13] = {2, 0x01, 0, 0, 0x02, 1, 0x07};
 
 #define FRESH_SLOT 0, 0, 0, 0, 0, 0, 1, 0, 0, 0
 static const uint8_t no_sender[AES18_SENDER_RECORD] = {0, 0, 0, 0, 0, 0, 0, 0, 0, 0, 0, 0, 0, FRESH_SLOT, FRESH_SLOT, FRESH_SLOT, FRESH_SLOT, 3, 15};
@@ -288,31 +56,6 @@ static void test_listing(const struct function *list, const uint8_t *none)
     EQUAL(c.bytes[RECORD], two_listed, sizeof two_listed);
     EQUAL(c.bytes[RECORD] + sizeof two_listed, none + sizeof two_listed, list->record - sizeof two_listed);
     ALL(c.bytes[RECORD] + list->record, OLD, 5);
-}
-
-/* A call of which everything is wrong is refused for record, answer and store, in this order, as one after the other is put right. */
-static void test_lent(struct call *c, const struct function *f)
-{
-    c->bytes[RECORD][0] = AES18_MOST_CIRCUITS + 1;
-    c->length[STORE] = 0;
-    c->length[RECORD] = 0;
-    CALL(c, f, AES18_REFUSED_SHORT);
-    c->length[RECORD] = f->record - 1;
-    CALL(c, f, AES18_REFUSED_SHORT);
-    c->length[RECORD] = f->record;
-    if (f->answer > 0) {
-        c->length[ANSWER] = 0;
-        CALL(c, f, AES18_REFUSED_SHORT);
-        c->length[ANSWER] = f->answer - 1;
-        CALL(c, f, AES18_REFUSED_SHORT);
-        c->length[ANSWER] = f->answer;
-    }
-    CALL(c, f, AES18_REFUSED_RECORD);
-    c->bytes[RECORD][0] = 2;
-    CALL(c, f, AES18_REFUSED_STORE);
-    c->length[STORE] = f->store - 1;
-    CALL(c, f, AES18_REFUSED_STORE);
-    c->length[STORE] = f->store;
 }
 
 /* Everything is wrong with an offer at first; then one thing after the other is put right. */
@@ -476,7 +219,7 @@ static const struct outside senders_outside[] = {
     {1, {0xFF}, 1}, {2, {2}, 1}, {3, {1}, 1}, {4, {0x01, 0, 0}, 3}, /* circuits that listing refuses */
     {13, {8}, 1}, {23, {8}, 1}, {14, {4}, 1}, {15, {6}, 1},         /* index, priority, repetition */
     {16, {1}, 1}, {26, {1}, 1},                                     /* copy above the repetition */
-    {17, {0xFF, 0x0F, 1, 0, 0, 1}, 6},                              /* length, with place and left of its packets */
+    {27, {0xFF, 0x0F, 1, 0, 0, 1}, 6},                              /* length at circuit 1, with place and left of its packets */
     {19, {2}, 1}, {20, {1}, 1}, {19, {2, 0, 0xFF, 0xFF}, 4},        /* place past the message's end */
     {21, {1}, 1}, {22, {1}, 1}, {31, {0xFF, 0xFF}, 2},              /* left where nothing is pending */
     {53, {4}, 1}, {54, {16}, 1}, {54, {255}, 1},                    /* last served, enable bits in force */
@@ -486,7 +229,7 @@ static const struct outside receivers_outside[] = {
     {0, {5}, 1}, {0, {255}, 1},                                                /* number of circuits */
     {1, {0xFF}, 1}, {2, {2}, 1}, {3, {1}, 1}, {4, {0x01, 0, 0}, 3},            /* circuits that listing refuses */
     {13, {2}, 1}, {14, {8}, 1},                                                /* seen, last index */
-    {15, {0xFF, 0x0F}, 2}, {17, {1}, 1}, {18, {1}, 1}, {23, {1}, 1},           /* length, place past the message's end */
+    {21, {0xFF, 0x0F}, 2}, {17, {1}, 1}, {18, {1}, 1}, {23, {1}, 1},           /* length at circuit 1, place past the message's end */
     {37, {5}, 1}, {37, {1, 7}, 2}, {37, {3, 0, 170}, 3},                       /* phase, ones, count of the framing */
     {37, {0, 1}, 2}, {37, {1, 0, 1}, 3}, {37, {2, 0, 1}, 3},                   /* ones or count not in this phase */
     {37, {3, 0, 0, 1}, 4}, {37, {3, 0, 169, 1}, 4}, {60, {0x80}, 1},           /* a bit behind those counted */
@@ -510,20 +253,6 @@ static void test_outside(const struct function *list, const struct function *f, 
         CALL(&c, f, i < count ? AES18_REFUSED_RECORD : AES18_ACCEPTED);
     }
 }
-
-/* Reads on to the next notice. */
-static void read_on(int line, struct call *c)
-{
-    const uint8_t *answer = c->bytes[ANSWER];
-
-    is(line, call(line, c, &reading), AES18_ACCEPTED);
-    c->from += number(answer + AES18_READ_BITS, 8);
-    noticed[answer[AES18_READ_NOTICE] % 6] = 1;
-    if (answer[AES18_READ_NOTICE] == AES18_NOTICE_CIRCUIT)
-        became[answer[AES18_READ_FATE] % 6] = 1;
-}
-
-#define READ_ON(c) read_on(__LINE__, c)
 
 /* The record of a sender, and of the receiver that reads its blocks, as a message of two packets with one repetition goes over. */
 static void test_records(void)
@@ -640,6 +369,7 @@ static void test_notices(void)
     ALL(c.bytes[STORE] + AES18_REGION + 46, OLD, AES18_SYSTEM_PLACE - AES18_REGION - 46);
     EQUAL(c.bytes[STORE] + AES18_SYSTEM_PLACE, (const uint8_t *)"hi", 2);
     ALL(c.bytes[STORE] + AES18_SYSTEM_PLACE + 2, OLD, 14);
+    ALL(c.bytes[BUFFER], OLD, c.length[BUFFER]);
 }
 
 /* The bodies of these frames: each packet, or no bytes where the body is spoilt. Number TWENTY_ONE is the first of 21 bytes, a packet of 19 and FCS. */
@@ -1030,7 +760,6 @@ static void test_totals(void)
     EQUAL(c.bytes[RECORD], totals, sizeof totals);
 }
 
-static const uint8_t four_circuits[] = {0x01, 0, 0, 0x01, 1, 0, 0x7E, 1, 0xFF, 0xFE, 0, 0};
 static const size_t message_length[AES18_MOST_CIRCUITS] = {0, 15, 16, AES18_LONGEST_MESSAGE};
 
 /* Reads a block in parts of 100 bits and compares the messages handed over; how many they are. */
@@ -1088,14 +817,7 @@ static void test_pass(uint64_t n)
     EQUAL(r.bytes[STORE], s.bytes[STORE], AES18_SENDER_STORE);
     EQUAL(r.bytes[STORE] + AES18_SYSTEM_PLACE, s.bytes[INPUT], AES18_LONGEST_INFORMATION);
     IS(r.bytes[STORE][AES18_RECEIVER_STORE - 1], OLD);
-}
-
-/* The packets still to go at a circuit number, as a panel reads them. */
-static uint64_t left(const struct call *c, size_t circuit)
-{
-    const uint8_t *bytes = c->bytes[RECORD] + AES18_SENDER_LEFT + AES18_SENDER_CIRCUIT_BYTES * circuit;
-
-    return bytes[0] + 256u * bytes[1];
+    ALL(r.bytes[BUFFER], OLD, r.length[BUFFER]);
 }
 
 /* Where packets are still to go: the bit of value 1 << c is set for circuit c. */
@@ -2038,14 +1760,11 @@ static void test_line_side_by_side(void)
     IS(number(read + GIVEN + AES18_LINE_READ_BYTES, 8), 8);
 }
 
-/* All tests, with arrays of no bytes at a place. */
-static void test_all(uint8_t *place)
+/* The tests of ends, which lend a long buffer or none. */
+static void test_ends(void)
 {
     size_t circuits;
 
-    nowhere = place;
-    test_listing(&list_sender, no_sender);
-    test_listing(&list_receiver, no_receiver);
     test_offer();
     test_block_refusals();
     test_empty_block();
@@ -2057,17 +1776,7 @@ static void test_all(uint8_t *place)
     test_records();
     test_framing();
     test_notices();
-    test_framing_cut();
-    test_framing_refusals();
-    test_framings_outside();
-    test_framing_lengths();
     test_framing_of_receiver();
-    test_framing_side_by_side();
-    test_noting_lengths();
-    test_noting_side_by_side();
-    test_figures();
-    test_uncounted();
-    test_totals();
     test_pass(AES18_FEWEST_BLOCK_BITS);
     test_pass(1003);
     test_pass(AES18_MOST_BLOCK_BITS);
@@ -2088,6 +1797,23 @@ static void test_all(uint8_t *place)
     test_stuffed();
     test_answer_lengths();
     test_any_stuffed();
+}
+
+/* The others. */
+static void test_apart(void)
+{
+    test_listing(&list_sender, no_sender);
+    test_listing(&list_receiver, no_receiver);
+    test_framing_cut();
+    test_framing_refusals();
+    test_framings_outside();
+    test_framing_lengths();
+    test_framing_side_by_side();
+    test_noting_lengths();
+    test_noting_side_by_side();
+    test_figures();
+    test_uncounted();
+    test_totals();
     test_line_frames();
     test_line_write_refusals();
     test_line_cut(0);
@@ -2101,14 +1827,28 @@ static void test_all(uint8_t *place)
     test_line_side_by_side();
 }
 
+static void test_all(void)
+{
+    testing = "tests/c-interface.c";
+    test_apart();
+    lend_alone();
+    test_ends();
+    lend_beside();
+    test_ends();
+    testing = "tests/c-long.c";
+    test_long();
+}
+
 int main(void)
 {
     int i;
 
     make_arenas();
-    test_all(NULL);
-    test_all(arenas[INPUT] + ARENA);
-    for (i = AES18_REFUSED_LIST; i <= AES18_REFUSED_PACKET; i++)
+    lend_nowhere();
+    test_all();
+    lend_behind();
+    test_all();
+    for (i = AES18_REFUSED_LIST; i <= AES18_REFUSED_LONG_BUFFER; i++)
         IS((uint64_t)refused[i], 1);
     IS((uint64_t)refused[AES18_REFUSED_SHORT], 1);
     for (i = AES18_NOTICE_END; i <= AES18_NOTICE_CIRCUIT; i++)

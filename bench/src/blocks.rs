@@ -56,8 +56,8 @@ impl Traffic {
         }
     }
 
-    /// The longest messages in the longest blocks, two circuits with copies. `bytes` gives a message's bytes.
-    fn long(mut bytes: impl FnMut(usize) -> Vec<u8>) -> Traffic {
+    /// Messages that fill the store, in the longest blocks, two circuits with copies. `bytes` gives a message's bytes.
+    fn full(mut bytes: impl FnMut(usize) -> Vec<u8>) -> Traffic {
         let circuit = |number: u64| Circuit {
             priority: 0,
             repetition: number / 2,
@@ -164,12 +164,12 @@ pub fn races(noise: &mut Noise) -> [Race<Traffic, Made>; 4] {
         race("telemetry, copies, system packets", telemetry),
         race("telemetry, enable bits that change", changing),
         race(
-            "long messages, random",
-            Traffic::long(|length| noise.bytes(length)),
+            "messages of 4,094 bytes, random",
+            Traffic::full(|length| noise.bytes(length)),
         ),
         race(
-            "long messages, all ones",
-            Traffic::long(|length| vec![0xFF; length]),
+            "messages of 4,094 bytes, all ones",
+            Traffic::full(|length| vec![0xFF; length]),
         ),
     ]
 }

@@ -4,6 +4,7 @@ mod blocks;
 mod calls;
 mod framings;
 mod lines;
+mod longs;
 mod noise;
 mod notes;
 mod race;
@@ -13,8 +14,8 @@ mod stack;
 mod table;
 
 use aes18::{
-    FRAMING_RECORD, LINE_RECORD, RECEIVER_RECORD, RECEIVER_STORE, SENDER_RECORD, SENDER_STORE,
-    TOTALS_RECORD,
+    FRAMING_RECORD, LINE_RECORD, LONG_BUFFER, RECEIVER_RECORD, RECEIVER_STORE, SENDER_RECORD,
+    SENDER_STORE, TOTALS_RECORD,
 };
 use noise::Noise;
 use race::{Race, TURNS};
@@ -48,6 +49,8 @@ fn run() -> Result<(), String> {
     let mut calling = calls::races(&clean);
     let mut writing = lines::writing(&mut noise).map_err(refused)?;
     let mut taking = lines::reading(&writing[0].case, &mut noise).map_err(refused)?;
+    let mut making_long = longs::making(&mut noise);
+    let mut reading_long = longs::reading(&making_long).map_err(refused)?;
     head()?;
     check(&mut making)?;
     check(&mut reading)?;
@@ -56,9 +59,13 @@ fn run() -> Result<(), String> {
     check(&mut calling)?;
     check(&mut writing)?;
     check(&mut taking)?;
-    say("Checked: the sides give the same blocks, answers, messages, stores, totals, lines and packets in every case, and again after every turn.")?;
+    check(&mut making_long)?;
+    check(&mut reading_long)?;
+    say("Checked: the sides give the same blocks, answers, messages, stores, long buffers, totals, lines and packets in every case, and again after every turn.")?;
     time("Block making", "bit", &mut making)?;
     time("Reading", "bit", &mut reading)?;
+    time_long("Long messages, making", &mut making_long)?;
+    time_long("Long messages, reading", &mut reading_long)?;
     time("Framing alone", "bit", &mut scanning)?;
     time("Noting", "call", &mut noting)?;
     time("Calls without work", "call", &mut calling)?;
@@ -70,6 +77,8 @@ fn run() -> Result<(), String> {
         channel: &reading[1].case,
         packets: &writing[0].case,
         line: &taking[0].case,
+        messages: making_long.each_ref().map(|race| &race.case),
+        beside: &reading_long[1].case,
     })?;
     let seconds = started.elapsed().as_secs_f64();
     say(&format!("\nThe run took {seconds:.0} s."))
@@ -90,14 +99,14 @@ fn head() -> Result<(), String> {
     say(
         "plain C    bench/plain.c; a record is a struct, checked in every call but for its framing",
     )?;
-    say("fast C     bench/fast.c, by words and tables, on the records of plain C, which lists and offers for it; not timed at noting and the serial line")?;
+    say("fast C     bench/fast.c, by words and tables, on the records of plain C, which lists and offers for it; not timed at long messages, noting and the serial line")?;
     say(&format!("           {gcc}, {flags}"))?;
-    say("reference  package reference/; an end is a value of its own, not checked; not timed at the framing alone and the serial line")?;
+    say("reference  package reference/; an end is a value of its own, not checked; not timed at long messages, the framing alone and the serial line")?;
     say(&format!("           {rustc}, --release"))?;
     say(&format!(
         "Each figure is the best of {TURNS} turns. The sides take turns, in both orders."
     ))?;
-    say("Blocks, answers, stores and lines are not cleared between turns: each turn writes over those of the one before.")
+    say("Blocks, answers, stores, long buffers and lines are not cleared between turns: each turn writes over those of the one before.")
 }
 
 /// The processor's name, where the system tells it.
@@ -135,6 +144,22 @@ fn time<C, L: Default + PartialEq, const N: usize>(
     Ok(())
 }
 
+/// The same of short messages and a long one, with what a bit of this costs to a bit of those.
+fn time_long<C, L: Default + PartialEq, const N: usize>(
+    title: &str,
+    races: &mut [Race<C, L, N>; 2],
+) -> Result<(), String> {
+    let sides = races[0].sides();
+    table::times_head(title, "bit", &sides)?;
+    let mut rows = Race::best_of_both(races)?;
+    for (race, each) in races.iter().zip(&mut rows) {
+        *each = each.map(|nanos| nanos / race.count as f64);
+        table::times(race.name, race.count, &sides, each)?;
+    }
+    let [short, long] = rows;
+    table::ratios_of_rows("65,535 bytes to 4,094 bytes", [&long, &short])
+}
+
 /// The bytes that a caller lends.
 fn sizes([plain_sender, plain_receiver]: [usize; 2]) -> Result<(), String> {
     table::bytes_head("Lent by the caller, bytes")?;
@@ -146,7 +171,8 @@ fn sizes([plain_sender, plain_receiver]: [usize; 2]) -> Result<(), String> {
     let plain_line = size_of::<<Plain as LineSide>::Line>();
     table::bytes("record of a line's reader", LINE_RECORD, plain_line)?;
     table::bytes("sender's store", SENDER_STORE, SENDER_STORE)?;
-    table::bytes("receiver's store", RECEIVER_STORE, RECEIVER_STORE)
+    table::bytes("receiver's store", RECEIVER_STORE, RECEIVER_STORE)?;
+    table::bytes("long buffer, of either end", LONG_BUFFER, LONG_BUFFER)
 }
 
 /// The stack that the calls touch.

@@ -58,16 +58,29 @@ impl<C, L: Default + PartialEq, const N: usize> Race<C, L, N> {
     /// The nanoseconds of the best turn of each side. The sides take turns, in both orders, and are compared each time.
     pub fn best(&mut self) -> Result<[f64; N], String> {
         let mut best = [f64::INFINITY; N];
+        (0..TURNS).try_for_each(|round| self.round(round, &mut best))?;
+        Ok(best)
+    }
+
+    /// The same of two races, which take turns too, so that one can be set beside the other.
+    pub fn best_of_both([one, other]: &mut [Race<C, L, N>; 2]) -> Result<[[f64; N]; 2], String> {
+        let mut best = [[f64::INFINITY; N]; 2];
         for round in 0..TURNS {
-            for step in 0..N {
-                let side = if round % 2 == 0 { step } else { N - 1 - step };
-                let start = Instant::now();
-                self.turn(side)?;
-                best[side] = best[side].min(start.elapsed().as_nanos() as f64);
-            }
-            self.compare()?;
+            one.round(round, &mut best[0])?;
+            other.round(round, &mut best[1])?;
         }
         Ok(best)
+    }
+
+    /// A turn of each side, with the best so far.
+    fn round(&mut self, round: usize, best: &mut [f64; N]) -> Result<(), String> {
+        for step in 0..N {
+            let side = if round % 2 == 0 { step } else { N - 1 - step };
+            let start = Instant::now();
+            self.turn(side)?;
+            best[side] = best[side].min(start.elapsed().as_nanos() as f64);
+        }
+        self.compare()
     }
 
     fn turn(&mut self, side: usize) -> Result<(), String> {

@@ -18,7 +18,7 @@ pub struct Channel {
 }
 
 impl Channel {
-    fn of(bytes: Vec<u8>) -> Channel {
+    pub fn of(bytes: Vec<u8>) -> Channel {
         let bits = 8 * bytes.len() as u64;
         Channel { bytes, bits }
     }

@@ -36,6 +36,9 @@ pub trait LineSide: Side {
     type Line: Line;
 }
 
+/// A side whose ends may have a long buffer too.
+pub trait LongSide: Side<Sender: LongSender, Receiver: LongReceiver> {}
+
 /// A sender; before it is listed it has no circuits.
 pub trait Sender: Default {
     fn list(&mut self, list: &[u8]) -> Result<(), u32>;
@@ -47,6 +50,36 @@ pub trait Sender: Default {
 pub trait Receiver: Default {
     fn list(&mut self, list: &[u8]) -> Result<(), u32>;
     fn read(&mut self, store: &mut [u8], bits: &[u8], part: Part) -> Result<ReadAnswer, u32>;
+}
+
+/// A sender that has a long buffer.
+pub trait LongSender: Sender {
+    fn offer_beside(
+        &mut self,
+        store: &mut [u8],
+        buffer: &[u8],
+        offer: Offer<'_>,
+    ) -> Result<(), u32>;
+    /// Offers a long message; the offer's circuit is 0.
+    fn offer_long(&mut self, store: &[u8], buffer: &mut [u8], offer: Offer<'_>) -> Result<(), u32>;
+    fn block_beside(
+        &mut self,
+        store: &[u8],
+        buffer: &[u8],
+        ask: Ask<'_>,
+        block: &mut [u8],
+    ) -> Result<BlockAnswer, u32>;
+}
+
+/// A receiver that has a long buffer.
+pub trait LongReceiver: Receiver {
+    fn read_beside(
+        &mut self,
+        store: &mut [u8],
+        buffer: &mut [u8],
+        bits: &[u8],
+        part: Part,
+    ) -> Result<ReadAnswer, u32>;
 }
 
 /// A framing, fresh at first.
@@ -118,7 +151,7 @@ impl ReadAnswer {
         u64::from_le_bytes(bits)
     }
 
-    /// Where a message stands in the store, if one came whole.
+    /// Where a message stands in the store, or a long one in the long buffer, if one came whole.
     pub fn whole(&self) -> Option<Range<usize>> {
         let [notice, number, _, fate, low, high, ..] = self.0;
         let start = aes18::REGION * usize::from(number);

@@ -3,11 +3,13 @@
 use crate::blocks::{make, Made, Traffic};
 use crate::framings::{scan, Scanned};
 use crate::lines::{take, write, LineBytes, Packets, Taken, Written};
+use crate::longs::{self, Messages};
 use crate::notes::{answers, note, Noted};
 use crate::reads::Channel;
 use crate::sides::{
-    Ask, BlockAnswer, Framing, FramingAnswer, FramingSide, Line, LineAnswer, LineSide, Offer, Part,
-    ReadAnswer, Receiver, Sender, Side, Totals, TotalsSide,
+    Ask, BlockAnswer, Framing, FramingAnswer, FramingSide, Line, LineAnswer, LineSide,
+    LongReceiver, LongSender, LongSide, Offer, Part, ReadAnswer, Receiver, Sender, Side, Totals,
+    TotalsSide,
 };
 use aes18::{LONGEST_PACKET, TOTALS_RECORD};
 use std::cell::Cell;
@@ -15,12 +17,16 @@ use std::ffi::c_void;
 use std::marker::PhantomData;
 
 /// The names of the calls.
-pub const CALLS: [&str; 9] = [
+pub const CALLS: [&str; 13] = [
     "sender_list",
     "sender_offer",
+    "sender_offer_beside",
+    "sender_offer_long",
     "sender_block",
+    "sender_block_beside",
     "receiver_list",
     "receiver_read",
+    "receiver_read_beside",
     "framing_read",
     "totals_note",
     "line_write",
@@ -32,9 +38,13 @@ pub const CALLS: [&str; 9] = [
 enum Call {
     SenderList,
     SenderOffer,
+    SenderOfferBeside,
+    SenderOfferLong,
     SenderBlock,
+    SenderBlockBeside,
     ReceiverList,
     ReceiverRead,
+    ReceiverReadBeside,
     FramingRead,
     TotalsNote,
     LineWrite,
@@ -42,13 +52,16 @@ enum Call {
 }
 
 /// What the calls are made over: blocks of the traffic are made, the channel is read by a receiver, noted, and read by a framing, the packets are
-/// written and the line is read.
+/// written and the line is read; with a long buffer blocks of messages are made and their channel is read.
 #[derive(Clone, Copy)]
 pub struct Work<'a> {
     pub traffic: &'a Traffic,
     pub channel: &'a Channel,
     pub packets: &'a Packets,
     pub line: &'a LineBytes,
+    /// Short ones and a long one.
+    pub messages: [&'a Messages; 2],
+    pub beside: &'a Channel,
 }
 
 thread_local! {
@@ -57,7 +70,7 @@ thread_local! {
 }
 
 /// The bytes that the deepest of each of these calls touches while the work is done.
-pub fn depths<S: TotalsSide + FramingSide + LineSide>(
+pub fn depths<S: LongSide + TotalsSide + FramingSide + LineSide>(
     work: Work<'_>,
 ) -> Result<[usize; CALLS.len()], u32> {
     DEEPEST.set([0; CALLS.len()]);
@@ -67,6 +80,10 @@ pub fn depths<S: TotalsSide + FramingSide + LineSide>(
     scan::<Painted<S>>(work.channel, &mut Scanned::default())?;
     write::<Painted<S>>(work.packets, &mut Written::default())?;
     take::<Painted<S>>(work.line, &mut Taken::default())?;
+    for messages in work.messages {
+        longs::make::<Painted<S>>(messages, &mut longs::Made::default())?;
+    }
+    longs::hear::<Painted<S>>(work.beside, &mut longs::Heard::default())?;
     Ok(DEEPEST.get())
 }
 
@@ -102,6 +119,8 @@ impl<S: Side> Side for Painted<S> {
     type Receiver = PaintedReceiver<S::Receiver>;
 }
 
+impl<S: LongSide> LongSide for Painted<S> {}
+
 impl<S: TotalsSide> TotalsSide for Painted<S> {
     type Totals = PaintedTotals<S::Totals>;
 }
@@ -131,6 +150,37 @@ impl<E: Sender> Sender for PaintedSender<E> {
     }
 }
 
+impl<E: LongSender> LongSender for PaintedSender<E> {
+    fn offer_beside(
+        &mut self,
+        store: &mut [u8],
+        buffer: &[u8],
+        offer: Offer<'_>,
+    ) -> Result<(), u32> {
+        painted(Call::SenderOfferBeside, || {
+            self.0.offer_beside(store, buffer, offer)
+        })
+    }
+
+    fn offer_long(&mut self, store: &[u8], buffer: &mut [u8], offer: Offer<'_>) -> Result<(), u32> {
+        painted(Call::SenderOfferLong, || {
+            self.0.offer_long(store, buffer, offer)
+        })
+    }
+
+    fn block_beside(
+        &mut self,
+        store: &[u8],
+        buffer: &[u8],
+        ask: Ask<'_>,
+        block: &mut [u8],
+    ) -> Result<BlockAnswer, u32> {
+        painted(Call::SenderBlockBeside, || {
+            self.0.block_beside(store, buffer, ask, block)
+        })
+    }
+}
+
 #[derive(Default)]
 struct PaintedReceiver<E>(E);
 
@@ -141,6 +191,20 @@ impl<E: Receiver> Receiver for PaintedReceiver<E> {
 
     fn read(&mut self, store: &mut [u8], bits: &[u8], part: Part) -> Result<ReadAnswer, u32> {
         painted(Call::ReceiverRead, || self.0.read(store, bits, part))
+    }
+}
+
+impl<E: LongReceiver> LongReceiver for PaintedReceiver<E> {
+    fn read_beside(
+        &mut self,
+        store: &mut [u8],
+        buffer: &mut [u8],
+        bits: &[u8],
+        part: Part,
+    ) -> Result<ReadAnswer, u32> {
+        painted(Call::ReceiverReadBeside, || {
+            self.0.read_beside(store, buffer, bits, part)
+        })
     }
 }
 

@@ -42,6 +42,15 @@ pub fn times(name: &str, count: u64, sides: &[&str], nanos: &[f64]) -> Result<()
     say(&line)
 }
 
+/// A row of ratios: the nanoseconds of each side in one row to those in another.
+pub fn ratios_of_rows(name: &str, [one, other]: [&[f64]; 2]) -> Result<(), String> {
+    let mut line = format!("{name:46}");
+    for (one, other) in one.iter().zip(other) {
+        line += &format!("{:>11.2}", one / other);
+    }
+    say(&line)
+}
+
 /// The ratios that are told of these sides: a name, and the numbers of both among them.
 fn ratios(sides: &[&str]) -> Vec<(String, [usize; 2])> {
     let number = |name| sides.iter().position(|&side| side == name);

@@ -2,8 +2,8 @@
 
 use crate::library::Library;
 use crate::read_back;
-use crate::tally::{Function, Tally};
-use aes18_reference::calls::{self, BlockCall, OfferCall, ReadCall};
+use crate::tally::{Function, Lent, Tally};
+use aes18_reference::calls::{self, BlockCall, LongOfferCall, OfferCall, ReadCall};
 use std::fmt::Debug;
 
 /// The first thing that differs.
@@ -156,15 +156,35 @@ impl Both {
         store: &mut [u8],
         call: OfferCall<'_>,
     ) -> Compared<u32> {
+        self.offer(record, store, None, call)
+    }
+
+    /// Beside a long buffer, if one is given.
+    pub fn offer(
+        &mut self,
+        record: &mut [u8],
+        store: &mut [u8],
+        long: Option<&[u8]>,
+        call: OfferCall<'_>,
+    ) -> Compared<u32> {
         let before = record.to_vec();
         let (mut copy, mut store_copy) = (Guarded::of(record), Guarded::of(store));
-        let library = self
-            .library
-            .sender_offer(copy.lent(), store_copy.lent(), call);
-        let reference = calls::sender_offer(record, store, call);
+        let (lent, lent_store, library) = (copy.lent(), store_copy.lent(), &mut self.library);
+        let (function, library, reference) = match long {
+            None => (
+                Function::SenderOffer,
+                library.sender_offer(lent, lent_store, call),
+                calls::sender_offer(record, store, call),
+            ),
+            Some(long) => (
+                Function::SenderOfferBeside,
+                library.sender_offer_beside(lent, lent_store, long, call),
+                calls::sender_offer_beside(record, store, long, call),
+            ),
+        };
         let number = self.compare(Call {
-            function: Function::SenderOffer,
-            given: &|| given(&before, store, &call),
+            function,
+            given: &|| given(&before, store, long, &call),
             library,
             reference,
             left: &[
@@ -172,8 +192,40 @@ impl Both {
                 ("the store", &store_copy, store),
             ],
         })?;
-        self.tally.enabling.offer(number, &before);
-        self.tally.left.offer(number, &before, record);
+        let lent = Lent::of(number, &before, store, long);
+        self.tally.enabling.offer(&lent);
+        self.tally.left.offer(&lent, record);
+        self.tally.long.offer(&lent, call);
+        Ok(number)
+    }
+
+    pub fn sender_offer_long(
+        &mut self,
+        record: &mut [u8],
+        store: &[u8],
+        long: &mut [u8],
+        call: LongOfferCall<'_>,
+    ) -> Compared<u32> {
+        let before = record.to_vec();
+        let (mut copy, mut long_copy) = (Guarded::of(record), Guarded::of(long));
+        let library = self
+            .library
+            .sender_offer_long(copy.lent(), store, long_copy.lent(), call);
+        let reference = calls::sender_offer_long(record, store, long, call);
+        let number = self.compare(Call {
+            function: Function::SenderOfferLong,
+            given: &|| given(&before, store, Some(long), &call),
+            library,
+            reference,
+            left: &[
+                ("the record", &copy, record),
+                ("the long buffer", &long_copy, long),
+            ],
+        })?;
+        let lent = Lent::of(number, &before, store, Some(long));
+        self.tally.enabling.offer(&lent);
+        self.tally.left.offer(&lent, record);
+        self.tally.long.offer_long(&lent, call);
         Ok(number)
     }
 
@@ -185,20 +237,39 @@ impl Both {
         block: &mut [u8],
         answer: &mut [u8],
     ) -> Compared<u32> {
+        self.block(record, store, None, call, block, answer)
+    }
+
+    /// Beside a long buffer, if one is given.
+    pub fn block(
+        &mut self,
+        record: &mut [u8],
+        store: &[u8],
+        long: Option<&[u8]>,
+        call: BlockCall<'_>,
+        block: &mut [u8],
+        answer: &mut [u8],
+    ) -> Compared<u32> {
         let before = record.to_vec();
         let (mut copy, mut block_copy, mut answer_copy) =
             (Guarded::of(record), Guarded::of(block), Guarded::of(answer));
-        let library = self.library.sender_block(
-            copy.lent(),
-            store,
-            call,
-            block_copy.lent(),
-            answer_copy.lent(),
-        );
-        let reference = calls::sender_block(record, store, call, block, answer);
+        let (lent, lent_block, lent_answer) = (copy.lent(), block_copy.lent(), answer_copy.lent());
+        let library = &mut self.library;
+        let (function, library, reference) = match long {
+            None => (
+                Function::SenderBlock,
+                library.sender_block(lent, store, call, lent_block, lent_answer),
+                calls::sender_block(record, store, call, block, answer),
+            ),
+            Some(long) => (
+                Function::SenderBlockBeside,
+                library.sender_block_beside(lent, store, long, call, lent_block, lent_answer),
+                calls::sender_block_beside(record, store, long, call, block, answer),
+            ),
+        };
         let number = self.compare(Call {
-            function: Function::SenderBlock,
-            given: &|| given(&before, store, &call),
+            function,
+            given: &|| given(&before, store, long, &call),
             library,
             reference,
             left: &[
@@ -207,13 +278,14 @@ impl Both {
                 ("the block", &block_copy, block),
             ],
         })?;
-        let enabling = &mut self.tally.enabling;
-        enabling.block(number, &before, call, record, answer);
-        self.tally.left.block(number, &before, record);
+        let lent = Lent::of(number, &before, store, long);
+        self.tally.enabling.block(&lent, call, record, answer);
+        self.tally.left.block(&lent, record);
+        self.tally.long.block(&lent, call, block.len(), record);
         self.tally.zeros.answer(number, answer.len());
         if number == 0 {
             let frames = read_back::hold(call, block, answer)?;
-            self.tally.zeros.block(&frames, record, store);
+            self.tally.zeros.block(&frames, record, store, long);
         }
         Ok(number)
     }
@@ -225,24 +297,53 @@ impl Both {
         call: ReadCall<'_>,
         answer: &mut [u8],
     ) -> Compared<u32> {
+        self.read(record, store, None, call, answer)
+    }
+
+    /// Beside a long buffer, if one is given.
+    pub fn read(
+        &mut self,
+        record: &mut [u8],
+        store: &mut [u8],
+        mut long: Option<&mut [u8]>,
+        call: ReadCall<'_>,
+        answer: &mut [u8],
+    ) -> Compared<u32> {
         let before = record.to_vec();
         let (mut copy, mut store_copy, mut answer_copy) =
             (Guarded::of(record), Guarded::of(store), Guarded::of(answer));
-        let library =
-            self.library
-                .receiver_read(copy.lent(), store_copy.lent(), call, answer_copy.lent());
-        let reference = calls::receiver_read(record, store, call, answer);
+        let mut long_copy = long.as_deref().map(Guarded::of);
+        let (lent, lent_store, lent_answer) = (copy.lent(), store_copy.lent(), answer_copy.lent());
+        let library = &mut self.library;
+        let (function, library, reference) = match (&mut long, &mut long_copy) {
+            (Some(long), Some(copy)) => (
+                Function::ReceiverReadBeside,
+                library.receiver_read_beside(lent, lent_store, copy.lent(), call, lent_answer),
+                calls::receiver_read_beside(record, store, long, call, answer),
+            ),
+            _ => (
+                Function::ReceiverRead,
+                library.receiver_read(lent, lent_store, call, lent_answer),
+                calls::receiver_read(record, store, call, answer),
+            ),
+        };
+        let mut left = vec![
+            ("the record", &copy, &*record),
+            ("the answer's bytes", &answer_copy, answer),
+            ("the store", &store_copy, store),
+        ];
+        let long = long.as_deref();
+        let beside = long_copy.as_ref().zip(long);
+        left.extend(beside.map(|(copy, long)| ("the long buffer", copy, long)));
         let number = self.compare(Call {
-            function: Function::ReceiverRead,
-            given: &|| given(&before, store, &call),
+            function,
+            given: &|| given(&before, store, long, &call),
             library,
             reference,
-            left: &[
-                ("the record", &copy, record),
-                ("the answer's bytes", &answer_copy, answer),
-                ("the store", &store_copy, store),
-            ],
+            left: &left,
         })?;
+        let lent = Lent::of(number, &before, store, long);
+        self.tally.long.read(&lent, call, record, answer);
         if number == 0 {
             self.tally.told(answer);
         }
@@ -371,9 +472,12 @@ pub fn read_of(answer: &[u8]) -> usize {
 }
 
 /// What a call was given, for the message about a difference.
-fn given(record: &[u8], store: &[u8], call: &dyn Debug) -> String {
+fn given(record: &[u8], store: &[u8], long: Option<&[u8]>, call: &dyn Debug) -> String {
+    let long = long.map_or(String::new(), |long| {
+        format!(", long buffer {} bytes", long.len())
+    });
     format!(
-        "record {}, store {} bytes, {call:?}",
+        "record {}, store {} bytes{long}, {call:?}",
         hex(record),
         store.len()
     )

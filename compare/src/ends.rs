@@ -1,17 +1,19 @@
-//! A sender and a receiver that go from call to call. Beside the calls on the record's bytes runs the reference that keeps its own queues,
-//! system packets, bits and sums from the listing on; what its record would be, and what it answers, is compared after each call.
+//! A sender and a receiver that go from call to call, with a long buffer or without. Beside the calls on the record's bytes runs the reference that
+//! keeps its own queues, system packets, bits and sums from the listing on; what its record would be, and what it answers, is compared after each call.
 
 use crate::both::{differ, shown, Both, Compared};
 use crate::inputs::spare;
 use crate::random::Random;
 use aes18_reference::bits::bytes_of;
 use aes18_reference::calls::{block_answer, number, read_answer};
-use aes18_reference::calls::{BlockCall, OfferCall, ReadCall, BLOCK_ANSWER, READ_ANSWER};
-use aes18_reference::receiver::{Notice, Read, Receiver};
+use aes18_reference::calls::{BlockCall, LongOfferCall, OfferCall, ReadCall};
+use aes18_reference::calls::{BLOCK_ANSWER, READ_ANSWER};
+use aes18_reference::lent::is_long;
+use aes18_reference::receiver::{Fate, Notice, Read, Receiver};
 use aes18_reference::records::{RECEIVER_RECORD, SENDER_RECORD};
 use aes18_reference::sender::{Block, Sender};
 use aes18_reference::totals::{Figures, Totals, TOTALS_RECORD};
-use aes18_reference::{RECEIVER_STORE, SENDER_STORE};
+use aes18_reference::{LONG_BUFFER, RECEIVER_STORE, REGION, SENDER_STORE};
 
 /// The library, which gave what the reference makes of the record's bytes, must also give what the reference has with all that it keeps.
 fn same(part: &str, library: &[u8], history: &[u8]) -> Compared<()> {
@@ -36,11 +38,24 @@ fn same_number(library: u32, history: u32) -> Compared<()> {
     )
 }
 
+/// So much of a long buffer as calls are given.
+fn lent(long: &[u8], given: Option<usize>) -> Option<&[u8]> {
+    given.map(|bytes| &long[..bytes])
+}
+
+fn lent_mut(long: &mut [u8], given: Option<usize>) -> Option<&mut [u8]> {
+    given.map(|bytes| &mut long[..bytes])
+}
+
 pub struct Sending {
     record: Vec<u8>,
     store: Vec<u8>,
+    long: Vec<u8>,
+    /// How many bytes of the long buffer the next calls are given; none where they are given no buffer.
+    pub given: Option<usize>,
     history: Sender,
     history_store: Vec<u8>,
+    history_long: Vec<u8>,
 }
 
 impl Sending {
@@ -55,8 +70,19 @@ impl Sending {
             record,
             history_store: store.clone(),
             store,
+            long: vec![],
+            given: None,
             history,
+            history_long: vec![],
         })
+    }
+
+    /// The same with a long buffer, which may be longer than it must.
+    pub fn with_long(mut self, random: &mut Random) -> Sending {
+        self.long = spare(random, LONG_BUFFER);
+        self.history_long = self.long.clone();
+        self.given = Some(self.long.len());
+        self
     }
 
     /// Offers a message at any circuit number with any priority, seldom with copies.
@@ -82,22 +108,45 @@ impl Sending {
             repetition,
             message,
         } = call;
-        let answered = both.sender_offer(&mut self.record, &mut self.store, call)?;
-        let offered = self.history.offer(
+        let long = lent(&self.long, self.given);
+        let answered = both.offer(&mut self.record, &mut self.store, long, call)?;
+        let offered = self.history.offer_beside(
             &mut self.history_store,
+            lent(&self.history_long, self.given),
             circuit,
             priority,
             repetition,
             message,
         );
-        same_number(answered, number(&offered))?;
+        self.offered(answered, number(&offered))
+    }
+
+    /// Offers a long message beside what is given of the long buffer, or beside no byte.
+    pub fn offer_long(&mut self, both: &mut Both, call: LongOfferCall<'_>) -> Compared<u32> {
+        let given = self.given.unwrap_or(0);
+        let long = &mut self.long[..given];
+        let answered = both.sender_offer_long(&mut self.record, &self.store, long, call)?;
+        let offered = self.history.offer_long(
+            &self.history_store,
+            &mut self.history_long[..given],
+            call.priority,
+            call.repetition,
+            call.message,
+        );
+        self.offered(answered, number(&offered))
+    }
+
+    /// What both sides answered to an offer, and what it left.
+    fn offered(&self, library: u32, history: u32) -> Compared<u32> {
+        same_number(library, history)?;
         same(
             "the record",
             &self.record[..SENDER_RECORD],
             &self.history.record(),
         )?;
         same("the store", &self.store, &self.history_store)?;
-        Ok(answered)
+        same("the long buffer", &self.long, &self.history_long)?;
+        Ok(library)
     }
 
     /// Makes a block; none if the call is refused.
@@ -110,10 +159,11 @@ impl Sending {
         let mut history_block = block.to_vec();
         let before = [0xEE; BLOCK_ANSWER];
         let mut answer = before;
-        let answered =
-            both.sender_block(&mut self.record, &self.store, call, block, &mut answer)?;
-        let made = self.history.block(
+        let (record, long) = (&mut self.record, lent(&self.long, self.given));
+        let answered = both.block(record, &self.store, long, call, block, &mut answer)?;
+        let made = self.history.block_beside(
             &self.history_store,
+            lent(&self.history_long, self.given),
             call.n,
             call.u,
             call.wanted(),
@@ -132,15 +182,19 @@ impl Sending {
     }
 }
 
-/// What is told each notice, and the store as the call left it.
+/// What is told each notice, and the message that it hands over.
 pub type Tell<'a> = dyn FnMut(Notice, &[u8]) + 'a;
 
 pub struct Reading {
     record: Vec<u8>,
     store: Vec<u8>,
+    long: Vec<u8>,
+    /// How many bytes of the long buffer the next calls are given; none where they are given no buffer.
+    pub given: Option<usize>,
     totals: Vec<u8>,
     history: Receiver,
     history_store: Vec<u8>,
+    history_long: Vec<u8>,
     history_totals: Totals,
 }
 
@@ -158,19 +212,36 @@ impl Reading {
             record,
             history_store: store.clone(),
             store,
+            long: vec![],
+            given: None,
             totals,
             history,
+            history_long: vec![],
             history_totals: Totals::default(),
         })
+    }
+
+    /// The same with a long buffer, which may be longer than it must.
+    pub fn with_long(mut self, random: &mut Random) -> Reading {
+        self.long = spare(random, LONG_BUFFER);
+        self.history_long = self.long.clone();
+        self.given = Some(self.long.len());
+        self
     }
 
     /// One reading call, whose notice is noted; none if it is refused.
     pub fn read(&mut self, both: &mut Both, call: ReadCall<'_>) -> Compared<Option<Read>> {
         let mut answer = [0xEE; READ_ANSWER];
-        let answered = both.receiver_read(&mut self.record, &mut self.store, call, &mut answer)?;
-        let read = self
-            .history
-            .read(&mut self.history_store, call.bits, call.from, call.to);
+        let (record, store) = (&mut self.record, &mut self.store);
+        let long = lent_mut(&mut self.long, self.given);
+        let answered = both.read(record, store, long, call, &mut answer)?;
+        let read = self.history.read_beside(
+            &mut self.history_store,
+            lent_mut(&mut self.history_long, self.given),
+            call.bits,
+            call.from,
+            call.to,
+        );
         same_number(answered, number(&read))?;
         same(
             "the record",
@@ -178,6 +249,7 @@ impl Reading {
             &self.history.record(),
         )?;
         same("the store", &self.store, &self.history_store)?;
+        same("the long buffer", &self.long, &self.history_long)?;
         if let Ok(read) = &read {
             same("the answer's bytes", &answer, &read_answer(read))?;
             self.note(both, &answer, read.notice)?;
@@ -196,12 +268,28 @@ impl Reading {
         )
     }
 
+    /// The message that a notice hands over; no bytes if it is no Whole.
+    fn handed_over(&self, notice: Notice) -> &[u8] {
+        match notice {
+            Notice::Circuit {
+                number,
+                fate: Fate::Whole(length),
+                ..
+            } => {
+                let region = &self.store[REGION * number..];
+                let place = if is_long(length) { &self.long } else { region };
+                &place[..length]
+            }
+            _ => &[],
+        }
+    }
+
     /// The figures that the totals have of a circuit number.
     pub fn figures(&self, number: usize) -> Figures {
         Totals::unpack(&self.totals[..TOTALS_RECORD]).circuits[number]
     }
 
-    /// Reads all of the call's bits, going on behind each notice. `tell` is given each notice, and the store as it was left then.
+    /// Reads all of the call's bits, going on behind each notice. `tell` is given each notice, and the message that was handed over then.
     pub fn read_all(
         &mut self,
         both: &mut Both,
@@ -215,7 +303,7 @@ impl Reading {
             if read.notice == Notice::End {
                 return Ok(());
             }
-            tell(read.notice, &self.store);
+            tell(read.notice, self.handed_over(read.notice));
             from += read.bits;
         }
     }

@@ -4,6 +4,7 @@ use crate::random::Random;
 use aes18_reference::calls::BlockCall;
 use aes18_reference::packet::{listed, Circuit};
 use aes18_reference::records::{SenderSlot, LAST_SERVED, SENDER_SLOT, SLOTS};
+use aes18_reference::LONG_BUFFER;
 
 /// A circuit's three bytes, of few values so that many are nearly alike.
 fn circuit_bytes(random: &mut Random) -> [u8; 3] {
@@ -66,6 +67,35 @@ pub fn length(random: &mut Random) -> usize {
         2..=6 => random.below(16),
         _ => random.below(100),
     }
+}
+
+/// A length of a long message: mostly one of a few packets more than the fewest, some at the edges or outside.
+pub fn long_length(random: &mut Random) -> usize {
+    match random.below(16) {
+        0 => random.pick(&[0, 16, 4093, 4094, 65_536, 65_537, 69_631]),
+        1 => random.pick(&[65_518, 65_519, 65_533, 65_534, 65_535]),
+        2 => 4095 + random.below(61_441),
+        3..=6 => random.pick(&[4095, 4096, 4097, 4110, 4111, 4126]),
+        _ => 4095 + random.below(300),
+    }
+}
+
+/// How much of a long buffer a call is given: mostly `whole`, else none, or less than it must be, or just enough.
+pub fn given(random: &mut Random, whole: Option<usize>) -> Option<usize> {
+    match random.below(16) {
+        0 => None,
+        1 => Some(random.pick(&[0, 1, 4095, 65_533, 65_534, 65_534])),
+        2 => Some(LONG_BUFFER),
+        _ => whole,
+    }
+}
+
+/// A long buffer in a half of all calls, mostly long enough.
+pub fn buffer_beside(random: &mut Random) -> Option<Vec<u8>> {
+    let bytes = given(random, Some(LONG_BUFFER + 9));
+    bytes
+        .filter(|_| random.once_in(2))
+        .map(|bytes| random.bytes(bytes))
 }
 
 /// N and U: mostly in range, some at the edges or outside.

@@ -1,7 +1,7 @@
 //! The library's functions on slices.
 
 use aes18::ffi;
-use aes18_reference::calls::{BlockCall, OfferCall, ReadCall};
+use aes18_reference::calls::{BlockCall, LongOfferCall, OfferCall, ReadCall};
 use std::ptr;
 
 /// Every second call passes a null pointer for each empty slice, the others one that is not null.
@@ -76,6 +76,57 @@ impl Library {
         }
     }
 
+    pub fn sender_offer_beside(
+        &mut self,
+        record: &mut [u8],
+        store: &mut [u8],
+        long: &[u8],
+        call: OfferCall<'_>,
+    ) -> u32 {
+        self.nulls = !self.nulls;
+        // SAFETY: as in `sender_list`.
+        unsafe {
+            ffi::aes18_sender_offer_beside(
+                self.write(record),
+                record.len(),
+                self.write(store),
+                store.len(),
+                self.read(long),
+                long.len(),
+                call.circuit,
+                call.priority,
+                call.repetition,
+                self.read(call.message),
+                call.message.len(),
+            )
+        }
+    }
+
+    pub fn sender_offer_long(
+        &mut self,
+        record: &mut [u8],
+        store: &[u8],
+        long: &mut [u8],
+        call: LongOfferCall<'_>,
+    ) -> u32 {
+        self.nulls = !self.nulls;
+        // SAFETY: as in `sender_list`.
+        unsafe {
+            ffi::aes18_sender_offer_long(
+                self.write(record),
+                record.len(),
+                self.read(store),
+                store.len(),
+                self.write(long),
+                long.len(),
+                call.priority,
+                call.repetition,
+                self.read(call.message),
+                call.message.len(),
+            )
+        }
+    }
+
     pub fn sender_block(
         &mut self,
         record: &mut [u8],
@@ -107,6 +158,40 @@ impl Library {
         }
     }
 
+    pub fn sender_block_beside(
+        &mut self,
+        record: &mut [u8],
+        store: &[u8],
+        long: &[u8],
+        call: BlockCall<'_>,
+        block: &mut [u8],
+        answer: &mut [u8],
+    ) -> u32 {
+        self.nulls = !self.nulls;
+        // SAFETY: as in `sender_list`.
+        unsafe {
+            ffi::aes18_sender_block_beside(
+                self.write(record),
+                record.len(),
+                self.read(store),
+                store.len(),
+                self.read(long),
+                long.len(),
+                call.n,
+                call.u,
+                call.system,
+                call.enable,
+                call.code,
+                self.read(call.information),
+                call.information.len(),
+                self.write(block),
+                block.len(),
+                self.write(answer),
+                answer.len(),
+            )
+        }
+    }
+
     pub fn receiver_read(
         &mut self,
         record: &mut [u8],
@@ -122,6 +207,34 @@ impl Library {
                 record.len(),
                 self.write(store),
                 store.len(),
+                self.read(call.bits),
+                call.bits.len(),
+                call.from,
+                call.to,
+                self.write(answer),
+                answer.len(),
+            )
+        }
+    }
+
+    pub fn receiver_read_beside(
+        &mut self,
+        record: &mut [u8],
+        store: &mut [u8],
+        long: &mut [u8],
+        call: ReadCall<'_>,
+        answer: &mut [u8],
+    ) -> u32 {
+        self.nulls = !self.nulls;
+        // SAFETY: as in `sender_list`.
+        unsafe {
+            ffi::aes18_receiver_read_beside(
+                self.write(record),
+                record.len(),
+                self.write(store),
+                store.len(),
+                self.write(long),
+                long.len(),
                 self.read(call.bits),
                 call.bits.len(),
                 call.from,

@@ -21,8 +21,8 @@ use std::env;
 use std::process::ExitCode;
 use std::time::{Duration, Instant, SystemTime, UNIX_EPOCH};
 use trials::{
-    cuts, enabling, framings, left, lengths, lines, listing, packets, passes, reading, records,
-    sending, totals, zeros,
+    cuts, enabling, framings, left, lengths, lines, listing, long, long_slots, packets, passes,
+    reading, records, sending, totals, zeros,
 };
 
 /// A trial under its name, and how often it is made in a lap.
@@ -32,7 +32,7 @@ type Trial = (
     fn(&mut Both, &mut Random) -> Compared<()>,
 );
 
-const TRIALS: [Trial; 28] = [
+const TRIALS: [Trial; 33] = [
     ("listing", 10, listing::any),
     ("sending", 20, sending::run),
     ("few system packets", 20, enabling::few),
@@ -58,6 +58,19 @@ const TRIALS: [Trial; 28] = [
     ("any totals", 60, totals::any),
     ("a list of notices near the most", 20, totals::near_the_most),
     ("passes", 180, passes::pass),
+    ("long messages offered", 4, long::sending),
+    ("reading beside a long buffer", 2, long::reading),
+    (
+        "any sender's slot of a long message",
+        10,
+        long_slots::any_sender,
+    ),
+    (
+        "any receiver's slot of a long message",
+        20,
+        long_slots::any_receiver,
+    ),
+    ("passes with long messages", 6, passes::long_pass),
     ("writing to a line", 10, lines::writing),
     ("packets written and read back", 30, lines::read_back),
     ("any line", 60, lines::any_line),
@@ -112,6 +125,10 @@ fn gate() -> Result<(), String> {
     lines::all(&mut both).map_err(|difference| show(0, "every byte of a line", 0, &difference))?;
     lengths::all(&mut both, &mut Random::new(0))
         .map_err(|difference| show(0, "every length", 0, &difference))?;
+    long::all(&mut both, &mut Random::new(0))
+        .map_err(|difference| show(0, "long messages", 0, &difference))?;
+    long_slots::all(&mut both, &mut Random::new(0))
+        .map_err(|difference| show(0, "slots of long messages", 0, &difference))?;
     for seed in 1..=LAPS {
         lap(&mut both, seed)?;
     }

@@ -2,17 +2,21 @@
 
 mod enabling;
 mod framings;
+mod heard;
 mod left;
 mod lines;
+mod long;
 mod zeros;
 
 use aes18_reference::calls::answered_notice;
+use aes18_reference::lent::is_long;
 use aes18_reference::receiver::{Fate, Notice};
 use aes18_reference::totals::{Figures, Totals, MOST};
 use enabling::Enabling;
 use framings::Framings;
 use left::Left;
 use lines::Lines;
+use long::Long;
 use std::collections::BTreeMap;
 use std::fmt;
 use zeros::Zeros;
@@ -21,9 +25,13 @@ use zeros::Zeros;
 pub enum Function {
     SenderList,
     SenderOffer,
+    SenderOfferBeside,
+    SenderOfferLong,
     SenderBlock,
+    SenderBlockBeside,
     ReceiverList,
     ReceiverRead,
+    ReceiverReadBeside,
     FramingRead,
     TotalsNote,
     LineWrite,
@@ -31,12 +39,25 @@ pub enum Function {
 }
 
 /// Each function with the numbers it can answer.
-const ANSWERS: [(Function, &[u32]); 9] = [
+const ANSWERS: [(Function, &[u32]); 13] = [
     (Function::SenderList, &[0, 1, 2, 3, 4, 255]),
     (Function::SenderOffer, &[0, 5, 6, 7, 8, 9, 10, 14, 255]),
+    (
+        Function::SenderOfferBeside,
+        &[0, 5, 6, 7, 8, 9, 10, 14, 19, 255],
+    ),
+    (
+        Function::SenderOfferLong,
+        &[0, 5, 6, 7, 8, 10, 14, 18, 19, 255],
+    ),
     (Function::SenderBlock, &[0, 5, 11, 12, 13, 14, 255]),
+    (
+        Function::SenderBlockBeside,
+        &[0, 5, 11, 12, 13, 14, 19, 255],
+    ),
     (Function::ReceiverList, &[0, 1, 2, 3, 4, 255]),
     (Function::ReceiverRead, &[0, 5, 14, 15, 255]),
+    (Function::ReceiverReadBeside, &[0, 5, 14, 15, 19, 255]),
     (Function::FramingRead, &[0, 14, 15, 255]),
     (Function::TotalsNote, &[0, 255]),
     (Function::LineWrite, &[0, 16, 17, 255]),
@@ -58,6 +79,32 @@ const FIGURES: [&str; 4] = ["messages", "bytes", "lost", "orphaned"];
 const PLACES: [&str; 3] = ["inside the packet", "before the FCS", "inside the FCS"];
 const RUNS: [&str; 5] = ["none", "one", "two", "three", "four"];
 
+/// What a call was lent, as far as a tally asks for it, and the number that it answered.
+pub struct Lent<'a> {
+    pub answered: u32,
+    /// The record before the call.
+    pub record: &'a [u8],
+    /// The bytes of the store, and of the long buffer if one was given.
+    pub store: usize,
+    pub long: Option<usize>,
+}
+
+impl<'a> Lent<'a> {
+    pub fn of(answered: u32, record: &'a [u8], store: &[u8], long: Option<&[u8]>) -> Lent<'a> {
+        Lent {
+            answered,
+            record,
+            store: store.len(),
+            long: long.map(<[u8]>::len),
+        }
+    }
+
+    /// Whether a long buffer was given.
+    pub fn given(&self) -> bool {
+        self.long.is_some()
+    }
+}
+
 /// What was seen of demand 3.
 #[derive(Default)]
 pub struct Claim {
@@ -74,11 +121,33 @@ pub struct Claim {
     pub messages: u64,
     /// Of the passes: those in which enable bits of an earlier block held a frame back.
     pub held_back: u64,
+    /// Of the addresses held: those that were sent long messages, and of these those of which some was lost or came in part.
+    pub long: u64,
+    pub long_lost: u64,
+    /// Of the messages handed over: the long ones, those behind one that was long, and long ones behind one that was not.
+    pub long_messages: u64,
+    pub behind_long: u64,
+    pub long_behind: u64,
+    /// Addresses that were sent long messages, where the receiver has no buffer or another number for them: only the losses are held.
+    pub losses_alone: u64,
 }
 
 impl Claim {
+    /// Counts what is handed over at an address, in order.
+    pub fn handed_over(&mut self, messages: &[Vec<u8>]) {
+        let long: Vec<bool> = messages
+            .iter()
+            .map(|message| is_long(message.len()))
+            .collect();
+        self.long_messages += long.iter().filter(|long| **long).count() as u64;
+        for pair in long.windows(2) {
+            self.behind_long += u64::from(pair[0] && !pair[1]);
+            self.long_behind += u64::from(!pair[0] && pair[1]);
+        }
+    }
+
     /// The counts of which a comparison that covers everything has enough.
-    fn wanted(&self) -> [(&'static str, u64, u64); 5] {
+    fn wanted(&self) -> [(&'static str, u64, u64); 11] {
         [
             ("passes", self.passes, 1000),
             ("messages handed over", self.messages, 5000),
@@ -89,6 +158,20 @@ impl Claim {
                 200,
             ),
             ("passes with a frame held back", self.held_back, 500),
+            ("addresses with long messages", self.long, 20),
+            (
+                "addresses with long messages lost in part",
+                self.long_lost,
+                10,
+            ),
+            ("long messages handed over", self.long_messages, 30),
+            ("short messages behind long ones", self.behind_long, 10),
+            ("long messages behind short ones", self.long_behind, 10),
+            (
+                "addresses with long messages not taken",
+                self.losses_alone,
+                10,
+            ),
         ]
     }
 }
@@ -99,6 +182,8 @@ impl fmt::Display for Claim {
             out,
             "demand 3: held at {} addresses of {} passes, at {} with packets lost, at {} with whole messages lost, {} messages handed over, \
              {} passes with a frame held back by enable bits of an earlier block; \
+             long messages: {} addresses, {} with some lost in part, {} messages handed over, {} short ones behind them, {} behind short ones, \
+             {} addresses at which they are not taken and only the losses are held; \
              not asked for: {} passes in which another frame passed, {} addresses with more than six lost in a row",
             self.addresses,
             self.passes,
@@ -106,6 +191,12 @@ impl fmt::Display for Claim {
             self.with_messages_gone,
             self.messages,
             self.held_back,
+            self.long,
+            self.long_lost,
+            self.long_messages,
+            self.behind_long,
+            self.long_behind,
+            self.losses_alone,
             self.other_frames,
             self.more_than_six
         )
@@ -226,6 +317,7 @@ pub struct Tally {
     pub cuts: Cuts,
     pub enabling: Enabling,
     pub left: Left,
+    pub long: Long,
     pub zeros: Zeros,
     pub framings: Framings,
     pub noted: Noted,
@@ -270,6 +362,7 @@ impl Tally {
             .chain(self.cuts.missing())
             .chain(self.enabling.missing())
             .chain(self.left.missing())
+            .chain(self.long.missing())
             .chain(self.zeros.missing())
             .chain(self.framings.missing())
             .chain(self.noted.missing())
@@ -321,6 +414,7 @@ impl fmt::Display for Tally {
         writeln!(out, "{}", self.cuts)?;
         writeln!(out, "{}", self.enabling)?;
         writeln!(out, "{}", self.left)?;
+        writeln!(out, "{}", self.long)?;
         writeln!(out, "{}", self.zeros)?;
         writeln!(out, "{}", self.framings)?;
         writeln!(out, "{}", self.noted)?;

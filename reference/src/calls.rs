@@ -126,17 +126,57 @@ pub struct OfferCall<'a> {
 }
 
 pub fn sender_offer(record: &mut [u8], store: &mut [u8], call: OfferCall<'_>) -> u32 {
+    offer(record, store, None, call)
+}
+
+/// With the long buffer, which stays as it is.
+pub fn sender_offer_beside(
+    record: &mut [u8],
+    store: &mut [u8],
+    long: &[u8],
+    call: OfferCall<'_>,
+) -> u32 {
+    offer(record, store, Some(long), call)
+}
+
+fn offer(record: &mut [u8], store: &mut [u8], long: Option<&[u8]>, call: OfferCall<'_>) -> u32 {
     if record.len() < SENDER_RECORD {
         return TOO_SHORT;
     }
-    let offered = Sender::resume(record, store).and_then(|mut sender| {
-        sender.offer(
+    let offered = Sender::resume_beside(record, store, long).and_then(|mut sender| {
+        sender.offer_beside(
             store,
+            long,
             call.circuit,
             call.priority,
             call.repetition,
             call.message,
         )?;
+        record[..SENDER_RECORD].copy_from_slice(&sender.record());
+        Ok(())
+    });
+    number(&offered)
+}
+
+/// What the call that offers a long message at circuit 0 is given beside record, store and long buffer.
+#[derive(Clone, Copy, Debug)]
+pub struct LongOfferCall<'a> {
+    pub priority: u64,
+    pub repetition: u64,
+    pub message: &'a [u8],
+}
+
+pub fn sender_offer_long(
+    record: &mut [u8],
+    store: &[u8],
+    long: &mut [u8],
+    call: LongOfferCall<'_>,
+) -> u32 {
+    if record.len() < SENDER_RECORD {
+        return TOO_SHORT;
+    }
+    let offered = Sender::resume_beside(record, store, Some(long)).and_then(|mut sender| {
+        sender.offer_long(store, long, call.priority, call.repetition, call.message)?;
         record[..SENDER_RECORD].copy_from_slice(&sender.record());
         Ok(())
     });
@@ -172,11 +212,34 @@ pub fn sender_block(
     block: &mut [u8],
     answer: &mut [u8],
 ) -> u32 {
+    make_block(record, store, None, call, block, answer)
+}
+
+/// With the long buffer.
+pub fn sender_block_beside(
+    record: &mut [u8],
+    store: &[u8],
+    long: &[u8],
+    call: BlockCall<'_>,
+    block: &mut [u8],
+    answer: &mut [u8],
+) -> u32 {
+    make_block(record, store, Some(long), call, block, answer)
+}
+
+fn make_block(
+    record: &mut [u8],
+    store: &[u8],
+    long: Option<&[u8]>,
+    call: BlockCall<'_>,
+    block: &mut [u8],
+    answer: &mut [u8],
+) -> u32 {
     if record.len() < SENDER_RECORD || answer.len() < BLOCK_ANSWER {
         return TOO_SHORT;
     }
-    let made = Sender::resume(record, store).and_then(|mut sender| {
-        let made = sender.block(store, call.n, call.u, call.wanted(), block)?;
+    let made = Sender::resume_beside(record, store, long).and_then(|mut sender| {
+        let made = sender.block_beside(store, long, call.n, call.u, call.wanted(), block)?;
         record[..SENDER_RECORD].copy_from_slice(&sender.record());
         answer[..BLOCK_ANSWER].copy_from_slice(&block_answer(&made));
         Ok(())
@@ -208,11 +271,33 @@ pub fn receiver_read(
     call: ReadCall<'_>,
     answer: &mut [u8],
 ) -> u32 {
+    read(record, store, None, call, answer)
+}
+
+/// With the long buffer, to which long messages go.
+pub fn receiver_read_beside(
+    record: &mut [u8],
+    store: &mut [u8],
+    long: &mut [u8],
+    call: ReadCall<'_>,
+    answer: &mut [u8],
+) -> u32 {
+    read(record, store, Some(long), call, answer)
+}
+
+fn read(
+    record: &mut [u8],
+    store: &mut [u8],
+    long: Option<&mut [u8]>,
+    call: ReadCall<'_>,
+    answer: &mut [u8],
+) -> u32 {
     if record.len() < RECEIVER_RECORD || answer.len() < READ_ANSWER {
         return TOO_SHORT;
     }
-    let read = Receiver::resume(record, store).and_then(|mut receiver| {
-        let read = receiver.read(store, call.bits, call.from, call.to)?;
+    let resumed = Receiver::resume_beside(record, store, long.as_deref());
+    let read = resumed.and_then(|mut receiver| {
+        let read = receiver.read_beside(store, long, call.bits, call.from, call.to)?;
         record[..RECEIVER_RECORD].copy_from_slice(&receiver.record());
         answer[..READ_ANSWER].copy_from_slice(&read_answer(&read));
         Ok(())

@@ -14,6 +14,7 @@ pub mod calls;
 pub mod framing;
 pub mod hdlc;
 pub mod history;
+pub mod lent;
 pub mod line;
 pub mod packet;
 pub mod receiver;
@@ -29,5 +30,10 @@ pub const SENDER_STORE: usize = 16384;
 pub const RECEIVER_STORE: usize = 16400;
 /// Where a receiver's store holds the information of a system packet.
 pub const SYSTEM_PLACE: usize = 16384;
-/// Bytes of the longest message.
+/// Bytes of the longest message that goes to a circuit's region.
 pub const LONGEST_MESSAGE: usize = 4094;
+/// Bytes of the shortest and of the longest long message (02, ask 7).
+pub const SHORTEST_LONG: usize = 4095;
+pub const LONGEST_LONG: usize = 65_535;
+/// Bytes a long buffer must have.
+pub const LONG_BUFFER: usize = 65_535;

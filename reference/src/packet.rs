@@ -1,5 +1,7 @@
 //! 01, "Circuits and records" and "Messages and packets": circuit lists, headers, segments, packets, and packets taken apart.
 
+use crate::lent::is_long;
+
 /// An address byte, with or without one extension byte.
 #[derive(Clone, Copy, Debug, PartialEq, Eq)]
 pub struct Circuit {
@@ -32,13 +34,17 @@ pub fn listed(list: &[u8]) -> Result<Vec<Circuit>, u32> {
     Ok(circuits.iter().map(circuit).collect())
 }
 
-/// The header of a message: one byte up to 15, else two; A4 of the first tells which, and the length's high bits stand first.
+/// What the header of every long message holds (02, ask 7).
+pub const LONG_HEADER: usize = 4095;
+
+/// The header of a message: one byte up to 15, else two; A4 of the first tells which, and the length's high bits stand first. That of a long message
+/// does not tell its length.
 pub fn header(length: usize) -> Vec<u8> {
     if length <= 15 {
-        vec![length as u8]
-    } else {
-        vec![0x10 | (length >> 8) as u8, length as u8]
+        return vec![length as u8];
     }
+    let held = if is_long(length) { LONG_HEADER } else { length };
+    vec![0x10 | (held >> 8) as u8, held as u8]
 }
 
 /// Header and message cut into segments of 16 bytes, the last 1 to 16.

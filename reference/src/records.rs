@@ -1,9 +1,10 @@
 //! The bytes of the two records, taken apart and judged (refusal 14). 01's ranges are those of listed circuits: numbers in the places of a
-//! circuit that is not listed may have any values, and keep them.
+//! circuit that is not listed may have any values, and keep them. Circuit 0 may have a long message where the call is given a long buffer, of whatever
+//! length (02, ask 7).
 
 use crate::history::{History, FRAMING};
 use crate::packet::{listed, packet_count, Circuit};
-use crate::LONGEST_MESSAGE;
+use crate::{LONGEST_LONG, LONGEST_MESSAGE};
 
 /// Bytes of a sender's record.
 pub const SENDER_RECORD: usize = 55;
@@ -50,6 +51,15 @@ fn circuits(record: &[u8]) -> Option<Vec<Circuit>> {
         0 => Some(vec![]),
         count @ 1..=4 => listed(&record[1..=3 * count]).ok(),
         _ => None,
+    }
+}
+
+/// The longest message that a record may tell of at a circuit number, in a call that is given a long buffer or is not.
+fn longest(number: usize, given: bool) -> usize {
+    if given && number == 0 {
+        LONGEST_LONG
+    } else {
+        LONGEST_MESSAGE
     }
 }
 
@@ -105,12 +115,12 @@ impl SenderSlot {
             .count()
     }
 
-    fn in_range(&self) -> bool {
+    fn in_range(&self, longest: usize) -> bool {
         self.index <= 7
             && self.priority <= 3
             && self.repetition <= 5
             && self.copy <= self.repetition
-            && self.length <= LONGEST_MESSAGE
+            && self.length <= longest
             && self.place <= packet_count(self.length)
             && self.left == self.still_to_go()
     }
@@ -127,8 +137,8 @@ pub struct SenderRecord {
 }
 
 impl SenderRecord {
-    /// None if the bytes are out of range.
-    pub fn unpack(record: &[u8]) -> Option<SenderRecord> {
+    /// None if the bytes are out of range in a call that is given a long buffer, or is not.
+    pub fn unpack(record: &[u8], given: bool) -> Option<SenderRecord> {
         let circuits = circuits(record)?;
         let slots: Vec<_> = record[SLOTS..LAST_SERVED]
             .chunks(SENDER_SLOT)
@@ -137,8 +147,10 @@ impl SenderRecord {
             .collect();
         let last_served = usize::from(record[LAST_SERVED]);
         let enable = record[ENABLE];
-        let in_range =
-            last_served <= 3 && enable <= ALL_ENABLED && slots.iter().all(SenderSlot::in_range);
+        let mut numbered = slots.iter().enumerate();
+        let in_range = last_served <= 3
+            && enable <= ALL_ENABLED
+            && numbered.all(|(number, slot)| slot.in_range(longest(number, given)));
         in_range.then_some(SenderRecord {
             circuits,
             slots,
@@ -155,7 +167,7 @@ pub struct ReceiverSlot {
     pub seen: bool,
     /// Continuity index of the last one.
     pub last: u8,
-    /// Length of the open message.
+    /// Length of the open message; that of a long one is the most it may have.
     pub length: usize,
     /// Bytes of it that are written.
     pub place: usize,
@@ -180,8 +192,8 @@ impl ReceiverSlot {
         [u8::from(self.seen), self.last, l0, l1, p0, p1]
     }
 
-    fn in_range(&self) -> bool {
-        self.last <= 7 && self.length <= LONGEST_MESSAGE && self.place <= self.length
+    fn in_range(&self, longest: usize) -> bool {
+        self.last <= 7 && self.length <= longest && self.place <= self.length
     }
 }
 
@@ -194,8 +206,8 @@ pub struct ReceiverRecord {
 }
 
 impl ReceiverRecord {
-    /// None if the bytes are out of range.
-    pub fn unpack(record: &[u8]) -> Option<ReceiverRecord> {
+    /// None if the bytes are out of range in a call that is given a long buffer, or is not.
+    pub fn unpack(record: &[u8], given: bool) -> Option<ReceiverRecord> {
         let circuits = circuits(record)?;
         let slots = record[SLOTS..FRAMING_PLACE].chunks(RECEIVER_SLOT);
         let mut slots: Vec<_> = slots.map(ReceiverSlot::unpack).collect::<Option<_>>()?;
@@ -203,9 +215,9 @@ impl ReceiverRecord {
         let mut framing = [0; FRAMING];
         framing.copy_from_slice(&record[FRAMING_PLACE..RECEIVER_RECORD]);
         let history = History::unpack(&framing)?;
-        slots
-            .iter()
-            .all(ReceiverSlot::in_range)
+        let mut numbered = slots.iter().enumerate();
+        numbered
+            .all(|(number, slot)| slot.in_range(longest(number, given)))
             .then_some(ReceiverRecord {
                 circuits,
                 slots,

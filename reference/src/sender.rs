@@ -1,17 +1,19 @@
 //! 01, "Blocks" and the calls of a sender: a queue of waiting copies for each circuit, and blocks made of them. The system packets that were sent
 //! are kept, and the last of them tells which priorities are enabled (02, ask 4). The packets still to go are counted in the queues (02, ask 5), the
-//! stuffed zeros of a block in its frames (02, ask 6).
+//! stuffed zeros of a block in its frames (02, ask 6). A long message (02, ask 7) becomes packets as any other; beside the header it differs in where it is
+//! kept between calls on a record's bytes.
 
 use crate::bits::bytes_of;
 use crate::hdlc::{added_zeros, frame, FLAG};
+use crate::lent::{is_long, long_enough};
 use crate::packet::{listed, packet_count, packets, Circuit, System};
 use crate::records::{
     put_circuits, SenderRecord, SenderSlot, ENABLE, LAST_SERVED, NO_SENDER, SENDER_RECORD,
     SENDER_SLOT, SLOTS,
 };
-use crate::{LONGEST_MESSAGE, REGION, SENDER_STORE};
+use crate::{LONGEST_LONG, LONGEST_MESSAGE, REGION, SENDER_STORE, SHORTEST_LONG};
 use std::collections::{BTreeSet, VecDeque};
-use std::ops::Range;
+use std::ops::{Range, RangeInclusive};
 
 /// A circuit and what waits there.
 #[derive(Clone, Debug)]
@@ -30,8 +32,8 @@ struct Queue {
 }
 
 impl Queue {
-    /// The queue that a slot tells, with the message in `region`: every copy of it waits but those placed.
-    fn of(circuit: Circuit, slot: &SenderSlot, region: &[u8]) -> Queue {
+    /// The queue that a slot tells, with the message at the start of these bytes: every copy of it waits but those placed.
+    fn of(circuit: Circuit, slot: &SenderSlot, kept: &[u8]) -> Queue {
         let mut queue = Queue {
             circuit,
             priority: 0,
@@ -41,7 +43,7 @@ impl Queue {
             copies: VecDeque::new(),
             idle_copy: 0,
         };
-        queue.take(slot.priority, slot.repetition, &region[..slot.length]);
+        queue.take(slot.priority, slot.repetition, &kept[..slot.length]);
         let placed = slot.place * queue.each() + usize::from(slot.copy);
         queue.copies.drain(..placed.min(queue.copies.len()));
         if queue.copies.is_empty() {
@@ -166,20 +168,25 @@ impl Sender {
 
     /// The sender that the first 55 bytes and the store tell, or refusal 14 or 5.
     pub fn resume(bytes: &[u8], store: &[u8]) -> Result<Sender, u32> {
-        let told = SenderRecord::unpack(bytes).ok_or(14u32)?;
-        if store.len() < SENDER_STORE {
-            return Err(5);
-        }
+        Sender::resume_beside(bytes, store, None)
+    }
+
+    /// The same of one with a long buffer, if it is given; 19 comes behind 14 and 5.
+    pub fn resume_beside(bytes: &[u8], store: &[u8], long: Option<&[u8]>) -> Result<Sender, u32> {
+        let told = SenderRecord::unpack(bytes, long.is_some()).ok_or(14u32)?;
+        long_enough(store, SENDER_STORE, long)?;
         let ends = told
             .circuits
             .iter()
             .zip(&told.slots)
             .zip(store.chunks(REGION));
+        let kept =
+            |slot: &SenderSlot, region| long.filter(|_| is_long(slot.length)).unwrap_or(region);
         let mut record = NO_SENDER;
         record.copy_from_slice(&bytes[..SENDER_RECORD]);
         Ok(Sender {
             queues: ends
-                .map(|((&circuit, slot), region)| Queue::of(circuit, slot, region))
+                .map(|((&circuit, slot), region)| Queue::of(circuit, slot, kept(slot, region)))
                 .collect(),
             last_served: told.last_served,
             systems: vec![],
@@ -205,6 +212,16 @@ impl Sender {
         last.map_or(self.record[ENABLE], |packet| packet[1] & 15)
     }
 
+    /// The refusals that come first in every call: 14 where the last message of circuit 0 is a long one and no long buffer is given, 5 and 19. Nothing
+    /// else of a sender made by calls is out of range.
+    fn lent(&self, store: &[u8], long: Option<&[u8]>) -> Result<(), u32> {
+        let has_long = self.queues.iter().any(|queue| is_long(queue.length));
+        if has_long && long.is_none() {
+            return Err(14);
+        }
+        long_enough(store, SENDER_STORE, long)
+    }
+
     /// Offers a message at a circuit, or gives the refusal's number.
     pub fn offer(
         &mut self,
@@ -214,9 +231,52 @@ impl Sender {
         repetition: u64,
         message: &[u8],
     ) -> Result<(), u32> {
-        if store.len() < SENDER_STORE {
-            return Err(5);
-        }
+        self.offer_beside(store, None, circuit, priority, repetition, message)
+    }
+
+    /// The same at a sender with a long buffer, if it is given, which stays as it is.
+    pub fn offer_beside(
+        &mut self,
+        store: &mut [u8],
+        long: Option<&[u8]>,
+        circuit: u64,
+        priority: u64,
+        repetition: u64,
+        message: &[u8],
+    ) -> Result<(), u32> {
+        self.lent(store, long)?;
+        let lengths = (0..=LONGEST_MESSAGE, 9);
+        self.take(circuit, priority, repetition, message, lengths)?;
+        store[circuit as usize * REGION..][..message.len()].copy_from_slice(message);
+        Ok(())
+    }
+
+    /// Offers a long message at circuit 0, or gives the refusal's number.
+    pub fn offer_long(
+        &mut self,
+        store: &[u8],
+        long: &mut [u8],
+        priority: u64,
+        repetition: u64,
+        message: &[u8],
+    ) -> Result<(), u32> {
+        self.lent(store, Some(long))?;
+        let lengths = (SHORTEST_LONG..=LONGEST_LONG, 18);
+        self.take(0, priority, repetition, message, lengths)?;
+        long[..message.len()].copy_from_slice(message);
+        Ok(())
+    }
+
+    /// Takes a message at a circuit, or gives the refusal's number in 01's offering order; for a length outside those of the call it is the one beside
+    /// them.
+    fn take(
+        &mut self,
+        circuit: u64,
+        priority: u64,
+        repetition: u64,
+        message: &[u8],
+        (lengths, outside): (RangeInclusive<usize>, u32),
+    ) -> Result<(), u32> {
         if circuit >= self.queues.len() as u64 {
             return Err(6);
         }
@@ -226,15 +286,14 @@ impl Sender {
         if repetition > 5 {
             return Err(8);
         }
-        if message.len() > LONGEST_MESSAGE {
-            return Err(9);
+        if !lengths.contains(&message.len()) {
+            return Err(outside);
         }
         let queue = &mut self.queues[circuit as usize];
         if !queue.copies.is_empty() {
             return Err(10);
         }
         queue.take(priority as u8, repetition as u8, message);
-        store[circuit as usize * REGION..][..message.len()].copy_from_slice(message);
         Ok(())
     }
 
@@ -248,9 +307,20 @@ impl Sender {
         system: Option<System<'_>>,
         block: &mut [u8],
     ) -> Result<Block, u32> {
-        if store.len() < SENDER_STORE {
-            return Err(5);
-        }
+        self.block_beside(store, None, n, u, system, block)
+    }
+
+    /// The same at a sender with a long buffer, if it is given, of which no more is looked at either.
+    pub fn block_beside(
+        &mut self,
+        store: &[u8],
+        long: Option<&[u8]>,
+        n: u64,
+        u: u64,
+        system: Option<System<'_>>,
+        block: &mut [u8],
+    ) -> Result<Block, u32> {
+        self.lent(store, long)?;
         if !(256..=27_000).contains(&n) || !(256..=n).contains(&u) {
             return Err(11);
         }

@@ -78,6 +78,100 @@ pub(crate) fn sender_block(
     Refusal::answered(number).map(|()| answer)
 }
 
+/// Offers a message, beside a long buffer.
+pub(crate) fn sender_offer_beside(
+    record: &mut [u8; SENDER_RECORD],
+    store: &mut [u8],
+    buffer: &[u8],
+    circuit: u64,
+    priority: u64,
+    repetition: u64,
+    message: &[u8],
+) -> Result<(), Refusal> {
+    // SAFETY: as said at the head of this file.
+    let number = unsafe {
+        ffi::aes18_sender_offer_beside(
+            record.as_mut_ptr(),
+            record.len(),
+            store.as_mut_ptr(),
+            store.len(),
+            buffer.as_ptr(),
+            buffer.len(),
+            circuit,
+            priority,
+            repetition,
+            message.as_ptr(),
+            message.len(),
+        )
+    };
+    Refusal::answered(number)
+}
+
+/// Offers a long message.
+pub(crate) fn sender_offer_long(
+    record: &mut [u8; SENDER_RECORD],
+    store: &[u8],
+    buffer: &mut [u8],
+    priority: u64,
+    repetition: u64,
+    message: &[u8],
+) -> Result<(), Refusal> {
+    // SAFETY: as said at the head of this file.
+    let number = unsafe {
+        ffi::aes18_sender_offer_long(
+            record.as_mut_ptr(),
+            record.len(),
+            store.as_ptr(),
+            store.len(),
+            buffer.as_mut_ptr(),
+            buffer.len(),
+            priority,
+            repetition,
+            message.as_ptr(),
+            message.len(),
+        )
+    };
+    Refusal::answered(number)
+}
+
+/// Makes a block, beside a long buffer, and returns the answer's bytes.
+pub(crate) fn sender_block_beside(
+    record: &mut [u8; SENDER_RECORD],
+    store: &[u8],
+    buffer: &[u8],
+    n: u64,
+    u: u64,
+    system: Option<SystemPacket<'_>>,
+    block: &mut [u8],
+) -> Result<[u8; 12], Refusal> {
+    let wanted = u64::from(system.is_some());
+    let system = system.unwrap_or_default();
+    let mut answer = [0; 12];
+    // SAFETY: as said at the head of this file.
+    let number = unsafe {
+        ffi::aes18_sender_block_beside(
+            record.as_mut_ptr(),
+            record.len(),
+            store.as_ptr(),
+            store.len(),
+            buffer.as_ptr(),
+            buffer.len(),
+            n,
+            u,
+            wanted,
+            system.enable,
+            system.code,
+            system.information.as_ptr(),
+            system.information.len(),
+            block.as_mut_ptr(),
+            block.len(),
+            answer.as_mut_ptr(),
+            answer.len(),
+        )
+    };
+    Refusal::answered(number).map(|()| answer)
+}
+
 /// Lists a receiver's circuits.
 pub(crate) fn receiver_list(
     record: &mut [u8; RECEIVER_RECORD],
@@ -106,6 +200,36 @@ pub(crate) fn receiver_read(
             record.len(),
             store.as_mut_ptr(),
             store.len(),
+            bits.as_ptr(),
+            bits.len(),
+            from,
+            to,
+            answer.as_mut_ptr(),
+            answer.len(),
+        )
+    };
+    Refusal::answered(number).map(|()| answer)
+}
+
+/// Reads up to the first notice, beside a long buffer, and returns the answer's bytes.
+pub(crate) fn receiver_read_beside(
+    record: &mut [u8; RECEIVER_RECORD],
+    store: &mut [u8],
+    buffer: &mut [u8],
+    bits: &[u8],
+    from: u64,
+    to: u64,
+) -> Result<[u8; 16], Refusal> {
+    let mut answer = [0; 16];
+    // SAFETY: as said at the head of this file.
+    let number = unsafe {
+        ffi::aes18_receiver_read_beside(
+            record.as_mut_ptr(),
+            record.len(),
+            store.as_mut_ptr(),
+            store.len(),
+            buffer.as_mut_ptr(),
+            buffer.len(),
             bits.as_ptr(),
             bits.len(),
             from,

@@ -7,8 +7,9 @@
 //! # Safety
 //!
 //! Each pointer must be valid for its length: for reads and writes where it is `*mut`, for reads where it is `*const`. A slice that is written (a
-//! record, a framing, totals, the store of an offer or a read, a block, the line of a line write, the packet of a framing's or a line's read, the
-//! answer of a block, a read, a framing's read, a line write or a line read) must overlap no other slice of the call.
+//! record, a framing, totals, the store of a read or of any offer but a long one, the buffer of a long offer or of a read, a block, the line of a line
+//! write, the packet of a framing's or a line's read, the answer of a block, a read, a framing's read, a line write or a line read) must overlap no other
+//! slice of the call.
 
 extern "C" {
     /// Lists a sender's circuits, three bytes each, and writes its record.
@@ -54,6 +55,56 @@ extern "C" {
         answer_len: usize,
     ) -> u32;
 
+    /// [`aes18_sender_offer`] of a sender that has a long buffer, of 65,535 bytes or more. Of the buffer only the length is looked at.
+    pub fn aes18_sender_offer_beside(
+        record: *mut u8,
+        record_len: usize,
+        store: *mut u8,
+        store_len: usize,
+        buffer: *const u8,
+        buffer_len: usize,
+        circuit: u64,
+        priority: u64,
+        repetition: u64,
+        message: *const u8,
+        message_len: usize,
+    ) -> u32;
+
+    /// Offers a long message, of 4,095 to 65,535 bytes, at circuit 0. It goes to the start of the buffer; of the store only the length is looked at.
+    pub fn aes18_sender_offer_long(
+        record: *mut u8,
+        record_len: usize,
+        store: *const u8,
+        store_len: usize,
+        buffer: *mut u8,
+        buffer_len: usize,
+        priority: u64,
+        repetition: u64,
+        message: *const u8,
+        message_len: usize,
+    ) -> u32;
+
+    /// [`aes18_sender_block`] of a sender that has a long buffer, from whose start the packets of a long message are made.
+    pub fn aes18_sender_block_beside(
+        record: *mut u8,
+        record_len: usize,
+        store: *const u8,
+        store_len: usize,
+        buffer: *const u8,
+        buffer_len: usize,
+        n: u64,
+        u: u64,
+        system: u64,
+        enable: u64,
+        code: u64,
+        info: *const u8,
+        info_len: usize,
+        block: *mut u8,
+        block_len: usize,
+        answer: *mut u8,
+        answer_len: usize,
+    ) -> u32;
+
     /// Lists a receiver's circuits, three bytes each, and writes its record.
     pub fn aes18_receiver_list(
         record: *mut u8,
@@ -71,6 +122,23 @@ extern "C" {
         record_len: usize,
         store: *mut u8,
         store_len: usize,
+        bits: *const u8,
+        bits_len: usize,
+        from: u64,
+        to: u64,
+        answer: *mut u8,
+        answer_len: usize,
+    ) -> u32;
+
+    /// [`aes18_receiver_read`] of a receiver that has a long buffer, to whose start the bytes of a long message at circuit 0 go. At Whole a length above
+    /// 4,094 says that the message is there, and not in the store.
+    pub fn aes18_receiver_read_beside(
+        record: *mut u8,
+        record_len: usize,
+        store: *mut u8,
+        store_len: usize,
+        buffer: *mut u8,
+        buffer_len: usize,
         bits: *const u8,
         bits_len: usize,
         from: u64,

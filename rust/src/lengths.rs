@@ -8,8 +8,14 @@ pub const SENDER_STORE: usize = 4 * REGION;
 pub const SYSTEM_PLACE: usize = 4 * REGION;
 /// Bytes that a receiver's store must have; what a longer one has behind them is unused.
 pub const RECEIVER_STORE: usize = SYSTEM_PLACE + 16;
-/// Bytes of the longest message.
+/// Bytes of the longest message that stands in a region.
 pub const LONGEST_MESSAGE: usize = 4094;
+/// Bytes of the shortest long message.
+pub const SHORTEST_LONG_MESSAGE: usize = LONGEST_MESSAGE + 1;
+/// Bytes of the longest long message.
+pub const LONGEST_LONG_MESSAGE: usize = 65_535;
+/// Bytes that a long buffer must have; what a longer one has behind them is unused.
+pub const LONG_BUFFER: usize = LONGEST_LONG_MESSAGE;
 /// Bytes of a sender's record.
 pub const SENDER_RECORD: usize = 55;
 /// Bytes of a receiver's record.

@@ -1,6 +1,6 @@
 //! What a reading call tells.
 
-use crate::lengths::{REGION, SYSTEM_PLACE};
+use crate::lengths::{LONGEST_MESSAGE, REGION, SYSTEM_PLACE};
 
 /// What a reading call stopped at.
 #[derive(Clone, Copy, Debug, PartialEq, Eq)]
@@ -43,16 +43,18 @@ pub enum Fate {
     Begun,
     /// It goes on with the open message, and more is due.
     Held,
-    /// It completes a message of this length, which stands in the store, see [`Notice::message`].
+    /// It completes a message of this length, which stands in the store, see [`Notice::message`], or if it is a long one in the long buffer, see
+    /// [`Notice::message_beside`].
     Whole(usize),
     /// It goes on with a message, and none is open.
     Orphan,
-    /// It does not fit the length in the message's header, or that header is wrong. The message is closed.
+    /// It does not fit the length in the message's header or those of long messages, or that header is wrong. The message is closed.
     Wrong,
 }
 
 impl Notice {
-    /// At [`Fate::Whole`] the message, at the start of its region of the receiver's store; otherwise none.
+    /// At [`Fate::Whole`] the message, at the start of its region of the receiver's store; otherwise none. A long message, of more than
+    /// [`LONGEST_MESSAGE`](crate::LONGEST_MESSAGE) bytes, is not in the store, so that there is none here: [`Notice::message_beside`] has it.
     ///
     /// It is there until a later call writes the region. It is borrowed from the store, so the compiler does not let it be kept over the next read:
     ///
@@ -85,10 +87,24 @@ impl Notice {
         match *self {
             Notice::Circuit {
                 number,
-                fate: Fate::Whole(length),
+                fate: Fate::Whole(length @ ..=LONGEST_MESSAGE),
                 ..
             } => store.get(number * REGION..)?.get(..length),
             _ => None,
+        }
+    }
+
+    /// At [`Fate::Whole`] the message, of a receiver that has a long buffer: a long one is at the start of the buffer, and another at the start of its
+    /// region of the store, as [`Notice::message`] has it. Otherwise none.
+    ///
+    /// A long message is there until a later call begins another. Like any message it is borrowed from where it is.
+    pub fn message_beside<'a>(&self, store: &'a [u8], buffer: &'a [u8]) -> Option<&'a [u8]> {
+        match *self {
+            Notice::Circuit {
+                fate: Fate::Whole(length),
+                ..
+            } if length > LONGEST_MESSAGE => buffer.get(..length),
+            _ => self.message(store),
         }
     }
 

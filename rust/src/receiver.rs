@@ -3,13 +3,14 @@
 use crate::calls;
 use crate::circuit::{Circuit, List};
 use crate::framing::Framing;
-use crate::lengths::RECEIVER_RECORD;
+use crate::lengths::{LONGEST_MESSAGE, RECEIVER_RECORD};
 use crate::notice::Notice;
 use crate::refusal::Refusal;
 
 /// A receiver: the circuits it lists, what came there, and where it stands between two flags.
 ///
-/// It is a value of 61 bytes; a copy of it is a receiver of its own, with a store of its own. Bits may be given cut at any place:
+/// It is a value of 61 bytes; a copy of it is a receiver of its own, with a store of its own, and a long buffer of its own if it has one. Bits may be given
+/// cut at any place:
 ///
 /// ```
 /// use aes18::{Circuit, Fate, Notice, Receiver, Sender, RECEIVER_STORE, SENDER_STORE};
@@ -53,10 +54,39 @@ pub struct Read {
 /// A message of which some packets have come and more are due.
 #[derive(Clone, Copy, Debug, PartialEq, Eq)]
 pub struct Open {
-    /// The length of the whole message.
+    /// The length of the whole message. That of a long message nobody knows before its last packet: this is the most that it may have, 65,535.
     pub length: usize,
-    /// How many of its bytes have come: fewer than its length. They stand at the start of its circuit's region of the store.
+    /// How many of its bytes have come: fewer than its length. They stand at the start of its circuit's region of the store, and those of a long message
+    /// at the start of the long buffer.
     pub received: usize,
+}
+
+impl Open {
+    /// Whether it is a long message.
+    ///
+    /// ```
+    /// use aes18::{Circuit, Open, Receiver, Sender, LONG_BUFFER, RECEIVER_STORE, SENDER_STORE};
+    ///
+    /// # fn main() -> Result<(), aes18::Refusal> {
+    /// # let circuits = [Circuit { address: 0x30, extension: None }];
+    /// # let (store, mut buffer) = ([0; SENDER_STORE], vec![0; LONG_BUFFER]);
+    /// # let mut sender = Sender::list(&circuits)?;
+    /// # sender.offer_long(&store, &mut buffer, 0, 0, &[0x55; 5000])?;
+    /// # let mut bits = [0; 32];
+    /// # sender.block_beside(&store, &buffer, 256, 256, None, &mut bits)?;
+    /// // The first block of a message of 5,000 bytes. How long it is, nobody can tell yet.
+    /// let (mut store, mut buffer) = ([0; RECEIVER_STORE], vec![0; LONG_BUFFER]);
+    /// let mut receiver = Receiver::list(&circuits)?;
+    /// receiver.read_beside(&mut store, &mut buffer, &bits, 0, 256)?;
+    /// let open = Open { length: 65_535, received: 14 };
+    /// assert_eq!(receiver.open(0), Some(open));
+    /// assert!(open.is_long());
+    /// # Ok(())
+    /// # }
+    /// ```
+    pub fn is_long(&self) -> bool {
+        self.length > LONGEST_MESSAGE
+    }
 }
 
 impl Receiver {
@@ -84,12 +114,24 @@ impl Receiver {
         from: u64,
         to: u64,
     ) -> Result<Read, Refusal> {
-        let answer = calls::receiver_read(&mut self.record, store, bits, from, to)?;
-        let [.., b0, b1, b2, b3, b4, b5, b6, b7] = answer;
-        Ok(Read {
-            notice: Notice::of(&answer),
-            bits: u64::from_le_bytes([b0, b1, b2, b3, b4, b5, b6, b7]),
-        })
+        calls::receiver_read(&mut self.record, store, bits, from, to).map(Read::of)
+    }
+
+    /// [`Receiver::read`] of a receiver that has a long buffer. The bytes of a long message, which its last packet ends, go to the start of the buffer as
+    /// they come, and nothing of it to the store. See [the package](crate#long-messages) for the whole of it.
+    ///
+    /// # Errors
+    ///
+    /// The first of these refusals that applies: 14, 5, 19, 15.
+    pub fn read_beside(
+        &mut self,
+        store: &mut [u8],
+        buffer: &mut [u8],
+        bits: &[u8],
+        from: u64,
+        to: u64,
+    ) -> Result<Read, Refusal> {
+        calls::receiver_read_beside(&mut self.record, store, buffer, bits, from, to).map(Read::of)
     }
 
     /// The message that is open at a circuit: it was begun, and neither completed nor dropped since. None where none is open or the circuit is not
@@ -135,6 +177,17 @@ impl Receiver {
     /// The receiver of a record's bytes. Any bytes may be given; those out of a record's range every call refuses by 14.
     pub fn from_bytes(record: [u8; RECEIVER_RECORD]) -> Receiver {
         Receiver { record }
+    }
+}
+
+impl Read {
+    /// The notice and the bits read of an answer.
+    fn of(answer: [u8; 16]) -> Read {
+        let [.., b0, b1, b2, b3, b4, b5, b6, b7] = answer;
+        Read {
+            notice: Notice::of(&answer),
+            bits: u64::from_le_bytes([b0, b1, b2, b3, b4, b5, b6, b7]),
+        }
     }
 }
 

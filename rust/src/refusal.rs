@@ -37,7 +37,7 @@ pub enum Refusal {
     PriorityAbove3 = 7,
     /// 8: a repetition above 5.
     RepetitionAbove5 = 8,
-    /// 9: a message longer than [`LONGEST_MESSAGE`](crate::LONGEST_MESSAGE).
+    /// 9: a message longer than [`LONGEST_MESSAGE`](crate::LONGEST_MESSAGE), which [`Sender::offer_long`](crate::Sender::offer_long) alone takes.
     MessageTooLong = 9,
     /// 10: an earlier message at the circuit still has a copy to place.
     MessagePending = 10,
@@ -47,7 +47,8 @@ pub enum Refusal {
     BufferTooShort = 12,
     /// 13: a system packet with enable bits above 15, a code above 8 or more than 15 bytes of information.
     SystemPacket = 13,
-    /// 14: a record out of range, which no record made by calls is. Of a framing alone: one that no bits leave.
+    /// 14: a record out of range, which no record made by calls is, if an end that has a long buffer is lent it in all of them. Of a framing alone: one
+    /// that no bits leave.
     RecordOutOfRange = 14,
     /// 15: from above to, or to past the bytes lent.
     BitRange = 15,
@@ -55,10 +56,15 @@ pub enum Refusal {
     LineTooShort = 16,
     /// 17: a packet outside 2 to 19 bytes.
     PacketLength = 17,
+    /// 18: a message outside [`SHORTEST_LONG_MESSAGE`](crate::SHORTEST_LONG_MESSAGE) to [`LONGEST_LONG_MESSAGE`](crate::LONGEST_LONG_MESSAGE), offered as
+    /// a long one.
+    LongMessageLength = 18,
+    /// 19: a long buffer shorter than [`LONG_BUFFER`](crate::LONG_BUFFER).
+    LongBufferTooShort = 19,
 }
 
 /// Every refusal with its words, in the order of the numbers from 1.
-const TABLE: [(Refusal, &str); 17] = [
+const TABLE: [(Refusal, &str); 19] = [
     (Refusal::ListLength, "length not 3, 6, 9 or 12"),
     (Refusal::AddressReserved, "an address FF hex"),
     (
@@ -94,10 +100,15 @@ const TABLE: [(Refusal, &str); 17] = [
         "output below the worst case: 2 bytes for each packet and FCS byte plus 2 flags",
     ),
     (Refusal::PacketLength, "a packet outside 2 to 19 bytes"),
+    (
+        Refusal::LongMessageLength,
+        "length outside 4,095 to 65,535 bytes",
+    ),
+    (Refusal::LongBufferTooShort, "long buffer too short"),
 ];
 
 impl Refusal {
-    /// The specification's number of the refusal, 1 to 17.
+    /// The specification's number of the refusal, 1 to 19.
     pub fn number(self) -> u8 {
         self as u8
     }
@@ -107,8 +118,8 @@ impl Refusal {
     pub(crate) fn answered(number: u32) -> Result<(), Refusal> {
         match number {
             0 => Ok(()),
-            1..=17 => Err(TABLE[number as usize - 1].0),
-            _ => unreachable!("a call answers 0 to 17 where all that it asks for has full length"),
+            1..=19 => Err(TABLE[number as usize - 1].0),
+            _ => unreachable!("a call answers 0 to 19 where all that it asks for has full length"),
         }
     }
 }

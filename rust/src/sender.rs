@@ -8,7 +8,7 @@ use crate::system::SystemPacket;
 
 /// A sender: the circuits it lists, what waits to be sent there, and the enable bits in force.
 ///
-/// It is a value of 55 bytes; a copy of it is a sender of its own, with a store of its own.
+/// It is a value of 55 bytes; a copy of it is a sender of its own, with a store of its own, and a long buffer of its own if it has one.
 ///
 /// ```
 /// use aes18::{Circuit, Sender, SENDER_STORE};
@@ -66,6 +66,18 @@ pub struct Block {
     pub zeros: u32,
 }
 
+impl Block {
+    /// The three numbers of an answer.
+    fn of(answer: [u8; 12]) -> Block {
+        let [p0, p1, p2, p3, u0, u1, u2, u3, z0, z1, z2, z3] = answer;
+        Block {
+            placed: u32::from_le_bytes([p0, p1, p2, p3]),
+            used: u32::from_le_bytes([u0, u1, u2, u3]),
+            zeros: u32::from_le_bytes([z0, z1, z2, z3]),
+        }
+    }
+}
+
 impl Sender {
     /// A fresh sender for one to four circuits, numbered from 0 in their order. All four priorities are enabled.
     ///
@@ -118,17 +130,101 @@ impl Sender {
         system: Option<SystemPacket<'_>>,
         block: &mut [u8],
     ) -> Result<Block, Refusal> {
-        let [p0, p1, p2, p3, u0, u1, u2, u3, z0, z1, z2, z3] =
-            calls::sender_block(&mut self.record, store, n, u, system, block)?;
-        Ok(Block {
-            placed: u32::from_le_bytes([p0, p1, p2, p3]),
-            used: u32::from_le_bytes([u0, u1, u2, u3]),
-            zeros: u32::from_le_bytes([z0, z1, z2, z3]),
-        })
+        calls::sender_block(&mut self.record, store, n, u, system, block).map(Block::of)
+    }
+
+    /// [`Sender::offer`] of a sender that has a long buffer. Of the buffer only the length is looked at.
+    ///
+    /// # Errors
+    ///
+    /// The first of these refusals that applies: 14, 5, 19, 6, 7, 8, 9, 10.
+    pub fn offer_beside(
+        &mut self,
+        store: &mut [u8],
+        buffer: &[u8],
+        circuit: u64,
+        priority: u64,
+        repetition: u64,
+        message: &[u8],
+    ) -> Result<(), Refusal> {
+        calls::sender_offer_beside(
+            &mut self.record,
+            store,
+            buffer,
+            circuit,
+            priority,
+            repetition,
+            message,
+        )
+    }
+
+    /// Takes a long message, of 4,095 to 65,535 bytes, to be sent at circuit 0. It is copied to the start of the long buffer, of which the bytes behind it
+    /// keep their values; of the store only the length is looked at. All else is as with a shorter message, which [`Sender::offer_beside`] takes: circuit
+    /// 0 takes its next message, long or not, when the last copy of the one before is placed.
+    ///
+    /// ```
+    /// use aes18::{Circuit, Refusal, Sender, LONG_BUFFER, SENDER_STORE};
+    ///
+    /// # fn main() -> Result<(), aes18::Refusal> {
+    /// let (mut store, mut buffer) = ([0; SENDER_STORE], vec![0; LONG_BUFFER]);
+    /// let mut sender = Sender::list(&[Circuit { address: 0x30, extension: None }])?;
+    /// sender.offer_long(&store, &mut buffer, 1, 0, &[0x55; 65_535])?;
+    /// assert_eq!(sender.waiting(0), 4097);
+    ///
+    /// let again = sender.offer_long(&store, &mut buffer, 1, 0, &[0x55; 4095]);
+    /// assert_eq!(again, Err(Refusal::MessagePending));
+    /// let again = sender.offer_beside(&mut store, &buffer, 0, 1, 0, b"short");
+    /// assert_eq!(again, Err(Refusal::MessagePending));
+    ///
+    /// let short = sender.offer_long(&store, &mut buffer, 1, 0, &[0x55; 4094]);
+    /// assert_eq!(short, Err(Refusal::LongMessageLength));
+    /// let long = sender.offer_beside(&mut store, &buffer, 0, 1, 0, &[0x55; 4095]);
+    /// assert_eq!(long, Err(Refusal::MessageTooLong));
+    /// # Ok(())
+    /// # }
+    /// ```
+    ///
+    /// # Errors
+    ///
+    /// The first of these refusals that applies: 14, 5, 19, 6, 7, 8, 18, 10.
+    pub fn offer_long(
+        &mut self,
+        store: &[u8],
+        buffer: &mut [u8],
+        priority: u64,
+        repetition: u64,
+        message: &[u8],
+    ) -> Result<(), Refusal> {
+        calls::sender_offer_long(
+            &mut self.record,
+            store,
+            buffer,
+            priority,
+            repetition,
+            message,
+        )
+    }
+
+    /// [`Sender::block`] of a sender that has a long buffer, from whose start the packets of a long message are made.
+    ///
+    /// # Errors
+    ///
+    /// The first of these refusals that applies: 14, 5, 19, 11, 12, 13.
+    pub fn block_beside(
+        &mut self,
+        store: &[u8],
+        buffer: &[u8],
+        n: u64,
+        u: u64,
+        system: Option<SystemPacket<'_>>,
+        block: &mut [u8],
+    ) -> Result<Block, Refusal> {
+        calls::sender_block_beside(&mut self.record, store, buffer, n, u, system, block)
+            .map(Block::of)
     }
 
     /// The packets still to go at a circuit: how many packets of its pending message have some copy still to place. It is 0 exactly where nothing
-    /// is pending, so that [`Sender::offer`] is not refused by 10, and where the circuit is not listed. Copies are not counted: a packet counts until
+    /// is pending, so that an offer is not refused by 10, and where the circuit is not listed. Copies are not counted: a packet counts until
     /// its last copy is placed. The number stands in the record; in one out of range it may be any.
     ///
     /// ```

@@ -16,6 +16,11 @@ pub const MOST_CIRCUITS: usize = 4;
 const SYSTEM: u8 = 0xFF;
 /// The bit of a packet's control byte that says that an extension stands behind it.
 const EXTENDED: u8 = 0x20;
+/// The two highest bits of a control byte where the packet is a message's first.
+const FIRST: u8 = 0b10;
+/// A long message's header, 4,095 in two bytes, and the bits of the first byte that are looked at.
+const LONG_HEADER: [u8; 2] = [0x1F, 0xFF];
+const HEADER_BITS: u8 = 0x1F;
 
 /// The circuits that the option `--circuits` names.
 pub fn option(value: &OsStr) -> Result<Vec<Circuit>, Error> {
@@ -33,6 +38,17 @@ pub fn of_packet(packet: &[u8]) -> Option<Circuit> {
             _ => Some(*packet.get(2)?),
         },
     })
+}
+
+/// Whether a packet of some circuit is a first one with the header of a long message.
+pub fn begins_long(packet: &[u8]) -> bool {
+    let (control, segment) = match packet {
+        [_, control, segment @ ..] if control & EXTENDED == 0 => (control, segment),
+        [_, control, _, segment @ ..] => (control, segment),
+        _ => return false,
+    };
+    let header = |[high, low]: [u8; 2]| [high & HEADER_BITS, low] == LONG_HEADER;
+    control >> 6 == FIRST && segment.first_chunk().copied().is_some_and(header)
 }
 
 /// The circuits of a list, separated by commas or spaces, such as a listing takes; an error says what was expected.
@@ -162,5 +178,29 @@ mod tests {
         assert_eq!(of(b"\x7E\xA1\x07\x02hi").as_deref(), Some("7E:07"));
         assert_eq!(of(b"\x01\xDF\x02").as_deref(), Some("01"));
         assert_eq!((of(b"\x01"), of(b"\x01\x20")), (None, None));
+    }
+
+    /// The reserved bits of the header are not looked at; control and extension are no header.
+    #[test]
+    fn headers_of_long_messages() {
+        for packet in [
+            &b"\x01\x80\x1F\xFFa long one"[..],
+            b"\x01\xA0\x07\x1F\xFFa long one",
+            b"\x01\x9F\xFF\xFF",
+        ] {
+            assert!(begins_long(packet), "{packet:?}");
+        }
+        for packet in [
+            &b"\x01\x80\x1F\xFEa short one"[..],
+            b"\x01\x80\x0F\xFFa shorter one",
+            b"\x01\x40\x1F\xFFa last one",
+            b"\x01\x00\x1F\xFFa packet between",
+            b"\x01\xA0\x1F\xFFan extension",
+            b"\x01\x80\x1F",
+            b"\x01\xA0\x07\x1F",
+            b"\x1F\xFF",
+        ] {
+            assert!(!begins_long(packet), "{packet:?}");
+        }
     }
 }

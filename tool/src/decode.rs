@@ -42,6 +42,7 @@ Usage: aes18 decode [--circuits ADDR[:EXT],..] [OPTIONS] BITS
                      in place of user bits
   --circuits LIST    one to four circuits to listen to, such as 01,02:07:
                      address and extension in hex, divided by commas or spaces;
+                     they are numbered from 0, and number 0 takes long messages;
                      without it those four with most packets
   --block N          the bits of a block, 256 to 27000: closing ones end where a
                      block does, counted from bit 0
@@ -59,12 +60,18 @@ Usage: aes18 decode [--circuits ADDR[:EXT],..] [OPTIONS] BITS
 
 Without --circuits a first reading scans the file as aes18 scan does, or in the
 same way the packets of LINE. The four circuits with most packets, copies not
-counted, are then listened to, of those with as many those heard first. Which,
-and which not, is said on the standard error. Where no packet of a circuit
-passes there is none in the totals, and the other notices are told. The standard
-input, a pipe or a device is told as it comes, and needs --circuits. What is
-lost, orphaned, wrong, dropped, open or known only modulo 8 is found at circuits
-that are listened to, and of no others does --strict judge it.
+counted, are then listened to, of those with as many those heard first, and
+numbered in this order. But one that sends long messages, as the header 1F FF
+hex in a first packet of it says, is number 0 before all others; of several the
+one with most packets. Which are listened to, by number, and which not, is said
+on the standard error. Where no packet of a circuit passes there is none in the
+totals, and the other notices are told. The standard input, a pipe or a device
+is told as it comes, and needs --circuits. What is lost, orphaned, wrong,
+dropped, open or known only modulo 8 is found at circuits that are listened to,
+and of no others does --strict judge it.
+
+A long message is one of 4,095 to 65,535 bytes. Only circuit number 0 takes it;
+at another its first packet is told as Wrong, and those behind it as Orphans.
 
 A line for each notice: how many bits were read when it was told, which is the
 number, from 0, of the first bit behind the closing flag; then
@@ -121,7 +128,8 @@ messages handed over and their bytes; those begun and dropped; orphans; and
 wrong ones. Lost, messages, bytes and orphans stop at
 4,294,967,295, which stands for that many or more. A message that is open at the
 end of the file is named, with how much of it has come and the place of its
-notice Begun.
+notice Begun. The length of a long one is known with its last packet: until then
+it is told as at most 65535 bytes.
 
 With --json a notice has the members bit and notice; System enable, priorities
 (a list of those enabled) and code; a circuit's number, circuit, loss and fate,
@@ -131,9 +139,10 @@ and with --messages file. A stretch in no frame has the one member gap: from,
 to, which is the bit behind the last, bits and, where it applies,
 before_first_flag (true). The last object has the one member totals, with bits,
 before (the first flag), gaps, gap_bits and modulo8 (places), the figures of the
-circuits, the messages that are open, and what is untraced. Without --circuits
-the first object has the one member listening, with the members to and not, in
-each a list of circuits as objects with the members circuit and packets.
+circuits, the messages that are open (a long one with at_most in place of
+length), and what is untraced. Without --circuits the first object has the one
+member listening, with the members to and not, in each a list of circuits as
+objects with the members circuit and packets.
 
 A capture (iec958) has words of 32 bits, the lowest byte first, left and right
 in turn, and no header. The user bit is bit 29 of a word. Which channel a word
@@ -366,7 +375,7 @@ fn read_bits(pass: &mut Pass, teller: &mut Teller, bytes: &[u8], bits: u64) -> R
         teller.read += told.bits;
         teller.tell_gaps(&pass.gaps())?;
         if let Some(heard) = told.heard {
-            teller.tell(&heard, pass.store())?;
+            teller.tell(&heard, pass.bytes(&heard.notice))?;
         }
     }
     Ok(())
@@ -383,6 +392,6 @@ fn read_line(packets: &mut Packets, teller: &mut Teller, mut bytes: &[u8]) -> Re
             return Ok(());
         };
         let heard = packets.hear(&packet, teller.read)?;
-        teller.tell(&heard, packets.listener.store())?;
+        teller.tell(&heard, packets.listener.bytes(&heard.notice))?;
     }
 }

@@ -47,7 +47,10 @@ what stands behind a # are skipped.
   offer CIRCUIT PRIORITY REPETITION MESSAGE
         Send a message at the circuit of that number; the first listed is 0.
         Priority 0 to 3, 3 the highest; repetition 0 to 5, the copies of each
-        packet after its original.
+        packet after its original. A message has at most 4,094 bytes, at circuit
+        0 at most 65,535. One above 4,094 is a long message: a receiver needs a
+        long buffer for it, as decode and show have, and has to list its circuit
+        first.
   block N U [system ENABLE CODE [INFORMATION]]
         Make a block of N user bits of which U may be used, in front a system
         packet if one is asked for: enable bits 0 to 15, block code 0 to 8. The

@@ -1,6 +1,6 @@
 //! A receiver that listens to the circuits listed, or to none.
 
-use aes18::{Circuit, Notice, Open, Packet, Receiver, RECEIVER_STORE};
+use aes18::{Circuit, Notice, Open, Packet, Receiver, LONG_BUFFER, RECEIVER_STORE};
 
 use crate::error::Error;
 use crate::frames;
@@ -9,6 +9,8 @@ use crate::frames;
 pub struct Listener {
     receiver: Receiver,
     store: Vec<u8>,
+    /// It is given in every call.
+    long_buffer: Vec<u8>,
     /// Whether no circuit is listed. The receiver lists one all the same, whose packets are told as those of any other.
     to_none: bool,
     /// Whether every packet is told, as it is where no circuit is listed. That takes a second reading of each frame.
@@ -45,6 +47,7 @@ impl Listener {
         Ok(Listener {
             receiver: receiver.map_err(|refusal| Error::Data(refusal.to_string()))?,
             store: vec![0; RECEIVER_STORE],
+            long_buffer: vec![0; LONG_BUFFER],
             to_none,
             every_packet: to_none,
         })
@@ -60,7 +63,10 @@ impl Listener {
     pub fn read(&mut self, bytes: &[u8], from: u64, to: u64) -> Result<Listened, Error> {
         let refused = |refusal: aes18::Refusal| Error::Data(refusal.to_string());
         let framing = self.receiver.framing();
-        let read = self.receiver.read(&mut self.store, bytes, from, to);
+        let (store, long_buffer) = (&mut self.store, &mut self.long_buffer);
+        let read = self
+            .receiver
+            .read_beside(store, long_buffer, bytes, from, to);
         let read = read.map_err(refused)?;
         let notice = match read.notice {
             Notice::Circuit { .. } if self.to_none => Notice::Elsewhere,
@@ -82,9 +88,10 @@ impl Listener {
         self.receiver.open(number)
     }
 
-    /// The store, with the message or the information of the last notice.
-    pub fn store(&self) -> &[u8] {
-        &self.store
+    /// The message at Whole, or the information at System, of the last notice.
+    pub fn bytes(&self, notice: &Notice) -> Option<&[u8]> {
+        let message = notice.message_beside(&self.store, &self.long_buffer);
+        message.or_else(|| notice.information(&self.store))
     }
 }
 

@@ -119,9 +119,9 @@ impl Pass {
         self.gaps.open().is_some_and(|from| from < bit)
     }
 
-    /// The store, with the message or the information of the last notice.
-    pub fn store(&self) -> &[u8] {
-        self.listener.store()
+    /// The message at Whole, or the information at System, of the last notice.
+    pub fn bytes(&self, notice: &Notice) -> Option<&[u8]> {
+        self.listener.bytes(notice)
     }
 
     /// How much stands in no frame, as far as it has ended.

@@ -52,7 +52,8 @@ of those with as many, that which was heard first:
 
 Bits are numbered from 0. What is said of lost packets and messages needs a
 receiver that listens to the circuit: aes18 decode and aes18 show, which without
---circuits listen to the first four of this list. Damage may make a packet that
+--circuits listen to the first four of this list, or to one that sends messages
+above 4,094 bytes and the first three others. Damage may make a packet that
 nobody sent: one in 65,536 spoilt frames passes its check.
 
 Behind the table stand the bits read, the circuits, System (system packets,

@@ -35,7 +35,8 @@ Usage: aes18 show [OPTIONS] BITS
   BITS               the file of user bits, or - for the standard input
   --circuits LIST    one to four circuits, such as 01,02:07: address and
                      extension in hex, divided by commas or spaces; they are
-                     numbered from 0; without it those four with most packets
+                     numbered from 0, and number 0 takes long messages, those
+                     above 4,094 bytes; without it those four with most packets
   --format FORMAT    bits: eight in a byte, the first in the lowest bit, as
                      without this option; bits-msb: the first in the highest
                      bit; iec958: a capture of ALSA's IEC958_SUBFRAME_LE words
@@ -59,12 +60,14 @@ Usage: aes18 show [OPTIONS] BITS
 
 Without --circuits a first reading scans the file as aes18 scan does. The four
 circuits with most packets, copies not counted, are then listened to, of those
-with as many those heard first. Which, and which not, stands above the picture,
-or behind the name of FILE. Where no packet of a circuit passes there is none in
-the figures. The standard input, a pipe or a device is told as it comes, and
-needs --circuits. What is lost, orphaned, wrong, dropped, open or known only
-modulo 8 is found at circuits that are listened to, and of no others does
---strict judge it.
+with as many those heard first, and numbered in this order. But one that sends
+long messages, as the header 1F FF hex in a first packet of it says, is number 0
+before all others; of several the one with most packets. Which are listened to,
+by number, and which not, stands above the picture, or behind the name of FILE.
+Where no packet of a circuit passes there is none in the figures. The standard
+input, a pipe or a device is told as it comes, and needs --circuits. What is
+lost, orphaned, wrong, dropped, open or known only modulo 8 is found at circuits
+that are listened to, and of no others does --strict judge it.
 
 A row begins with its block's number, or that of its first bit. Each character
 behind it stands for as many bits as the first line says, and shows the most

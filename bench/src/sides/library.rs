@@ -2,10 +2,12 @@
 
 use super::{
     answered, Ask, BlockAnswer, Framing, FramingAnswer, FramingSide, Line, LineAnswer, LineSide,
-    Offer, Part, ReadAnswer, Receiver, Sender, Side, Totals, TotalsSide,
+    LongReceiver, LongSender, LongSide, Offer, Part, ReadAnswer, Receiver, Sender, Side, Totals,
+    TotalsSide,
 };
 use aes18::{
-    ffi, FRAMING_RECORD, LINE_RECORD, LONGEST_PACKET, RECEIVER_RECORD, SENDER_RECORD, TOTALS_RECORD,
+    ffi, SystemPacket, FRAMING_RECORD, LINE_RECORD, LONGEST_PACKET, RECEIVER_RECORD, SENDER_RECORD,
+    TOTALS_RECORD,
 };
 
 pub struct Library;
@@ -15,6 +17,8 @@ impl Side for Library {
     type Sender = LibrarySender;
     type Receiver = LibraryReceiver;
 }
+
+impl LongSide for Library {}
 
 impl TotalsSide for Library {
     type Totals = LibraryTotals;
@@ -34,6 +38,12 @@ impl Default for LibrarySender {
     fn default() -> LibrarySender {
         LibrarySender([0; SENDER_RECORD])
     }
+}
+
+/// Whether a system packet is wanted, as a number, and the packet.
+fn asked(ask: Ask<'_>) -> (u64, SystemPacket<'_>) {
+    let wanted = u64::from(ask.system.is_some());
+    (wanted, ask.system.unwrap_or_default())
 }
 
 // SAFETY of the calls below: each pointer is of a slice and passed with its length, and slices in Rust overlap none that is written.
@@ -66,9 +76,7 @@ impl Sender for LibrarySender {
     fn block(&mut self, store: &[u8], ask: Ask<'_>, block: &mut [u8]) -> Result<BlockAnswer, u32> {
         let record = &mut self.0;
         let mut answer = BlockAnswer::default();
-        let (enable, code, info) = ask.system.map_or((0, 0, &[][..]), |system| {
-            (system.enable, system.code, system.information)
-        });
+        let (wanted, system) = asked(ask);
         answered(unsafe {
             ffi::aes18_sender_block(
                 record.as_mut_ptr(),
@@ -77,11 +85,89 @@ impl Sender for LibrarySender {
                 store.len(),
                 ask.n,
                 ask.n,
-                u64::from(ask.system.is_some()),
-                enable,
-                code,
-                info.as_ptr(),
-                info.len(),
+                wanted,
+                system.enable,
+                system.code,
+                system.information.as_ptr(),
+                system.information.len(),
+                block.as_mut_ptr(),
+                block.len(),
+                answer.0.as_mut_ptr(),
+                answer.0.len(),
+            )
+        })?;
+        Ok(answer)
+    }
+}
+
+impl LongSender for LibrarySender {
+    fn offer_beside(
+        &mut self,
+        store: &mut [u8],
+        buffer: &[u8],
+        offer: Offer<'_>,
+    ) -> Result<(), u32> {
+        let record = &mut self.0;
+        answered(unsafe {
+            ffi::aes18_sender_offer_beside(
+                record.as_mut_ptr(),
+                record.len(),
+                store.as_mut_ptr(),
+                store.len(),
+                buffer.as_ptr(),
+                buffer.len(),
+                offer.circuit,
+                offer.priority,
+                offer.repetition,
+                offer.message.as_ptr(),
+                offer.message.len(),
+            )
+        })
+    }
+
+    fn offer_long(&mut self, store: &[u8], buffer: &mut [u8], offer: Offer<'_>) -> Result<(), u32> {
+        let record = &mut self.0;
+        answered(unsafe {
+            ffi::aes18_sender_offer_long(
+                record.as_mut_ptr(),
+                record.len(),
+                store.as_ptr(),
+                store.len(),
+                buffer.as_mut_ptr(),
+                buffer.len(),
+                offer.priority,
+                offer.repetition,
+                offer.message.as_ptr(),
+                offer.message.len(),
+            )
+        })
+    }
+
+    fn block_beside(
+        &mut self,
+        store: &[u8],
+        buffer: &[u8],
+        ask: Ask<'_>,
+        block: &mut [u8],
+    ) -> Result<BlockAnswer, u32> {
+        let record = &mut self.0;
+        let mut answer = BlockAnswer::default();
+        let (wanted, system) = asked(ask);
+        answered(unsafe {
+            ffi::aes18_sender_block_beside(
+                record.as_mut_ptr(),
+                record.len(),
+                store.as_ptr(),
+                store.len(),
+                buffer.as_ptr(),
+                buffer.len(),
+                ask.n,
+                ask.n,
+                wanted,
+                system.enable,
+                system.code,
+                system.information.as_ptr(),
+                system.information.len(),
                 block.as_mut_ptr(),
                 block.len(),
                 answer.0.as_mut_ptr(),
@@ -117,6 +203,36 @@ impl Receiver for LibraryReceiver {
                 record.len(),
                 store.as_mut_ptr(),
                 store.len(),
+                bits.as_ptr(),
+                bits.len(),
+                part.from,
+                part.to,
+                answer.0.as_mut_ptr(),
+                answer.0.len(),
+            )
+        })?;
+        Ok(answer)
+    }
+}
+
+impl LongReceiver for LibraryReceiver {
+    fn read_beside(
+        &mut self,
+        store: &mut [u8],
+        buffer: &mut [u8],
+        bits: &[u8],
+        part: Part,
+    ) -> Result<ReadAnswer, u32> {
+        let record = &mut self.0;
+        let mut answer = ReadAnswer::default();
+        answered(unsafe {
+            ffi::aes18_receiver_read_beside(
+                record.as_mut_ptr(),
+                record.len(),
+                store.as_mut_ptr(),
+                store.len(),
+                buffer.as_mut_ptr(),
+                buffer.len(),
                 bits.as_ptr(),
                 bits.len(),
                 part.from,

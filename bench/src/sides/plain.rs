@@ -2,7 +2,8 @@
 
 use super::{
     answered, Ask, BlockAnswer, Framing, FramingAnswer, FramingSide, Line, LineAnswer, LineSide,
-    Offer, Part, ReadAnswer, Receiver, Sender, Side, Totals, TotalsSide,
+    LongReceiver, LongSender, LongSide, Offer, Part, ReadAnswer, Receiver, Sender, Side, Totals,
+    TotalsSide,
 };
 use aes18::{LONGEST_PACKET, TOTALS_RECORD};
 use std::ptr;
@@ -14,6 +15,8 @@ impl Side for Plain {
     type Sender = PlainSender;
     type Receiver = PlainReceiver;
 }
+
+impl LongSide for Plain {}
 
 impl TotalsSide for Plain {
     type Totals = PlainTotals;
@@ -67,6 +70,18 @@ pub struct PlainSystem {
     info_len: usize,
 }
 
+impl PlainSystem {
+    /// The system packet that is wanted.
+    fn of(ask: Ask<'_>) -> Option<PlainSystem> {
+        ask.system.map(|system| PlainSystem {
+            enable: system.enable,
+            code: system.code,
+            info: system.information.as_ptr(),
+            info_len: system.information.len(),
+        })
+    }
+}
+
 /// Block making in C, over plain C's record.
 pub type MakeBlock = unsafe extern "C" fn(
     s: *mut PlainSender,
@@ -117,10 +132,45 @@ extern "C" {
         message: *const u8,
         message_len: usize,
     ) -> u32;
+    fn plain_sender_offer_beside(
+        s: *mut PlainSender,
+        store: *mut u8,
+        store_len: usize,
+        buffer: *const u8,
+        buffer_len: usize,
+        circuit: u64,
+        priority: u64,
+        repetition: u64,
+        message: *const u8,
+        message_len: usize,
+    ) -> u32;
+    fn plain_sender_offer_long(
+        s: *mut PlainSender,
+        store_len: usize,
+        buffer: *mut u8,
+        buffer_len: usize,
+        priority: u64,
+        repetition: u64,
+        message: *const u8,
+        message_len: usize,
+    ) -> u32;
     fn plain_sender_block(
         s: *mut PlainSender,
         store: *const u8,
         store_len: usize,
+        n: u64,
+        u: u64,
+        system: *const PlainSystem,
+        block: *mut u8,
+        block_len: usize,
+        answer: *mut BlockAnswer,
+    ) -> u32;
+    fn plain_sender_block_beside(
+        s: *mut PlainSender,
+        store: *const u8,
+        store_len: usize,
+        buffer: *const u8,
+        buffer_len: usize,
         n: u64,
         u: u64,
         system: *const PlainSystem,
@@ -133,6 +183,18 @@ extern "C" {
         r: *mut PlainReceiver,
         store: *mut u8,
         store_len: usize,
+        bits: *const u8,
+        bits_len: usize,
+        from: u64,
+        to: u64,
+        answer: *mut ReadAnswer,
+    ) -> u32;
+    fn plain_receiver_read_beside(
+        r: *mut PlainReceiver,
+        store: *mut u8,
+        store_len: usize,
+        buffer: *mut u8,
+        buffer_len: usize,
         bits: *const u8,
         bits_len: usize,
         from: u64,
@@ -193,12 +255,7 @@ impl PlainSender {
         block: &mut [u8],
     ) -> Result<BlockAnswer, u32> {
         let mut answer = BlockAnswer::default();
-        let system = ask.system.map(|system| PlainSystem {
-            enable: system.enable,
-            code: system.code,
-            info: system.information.as_ptr(),
-            info_len: system.information.len(),
-        });
+        let system = PlainSystem::of(ask);
         answered(unsafe {
             make(
                 self,
@@ -283,6 +340,72 @@ impl Sender for PlainSender {
     }
 }
 
+impl LongSender for PlainSender {
+    fn offer_beside(
+        &mut self,
+        store: &mut [u8],
+        buffer: &[u8],
+        offer: Offer<'_>,
+    ) -> Result<(), u32> {
+        answered(unsafe {
+            plain_sender_offer_beside(
+                self,
+                store.as_mut_ptr(),
+                store.len(),
+                buffer.as_ptr(),
+                buffer.len(),
+                offer.circuit,
+                offer.priority,
+                offer.repetition,
+                offer.message.as_ptr(),
+                offer.message.len(),
+            )
+        })
+    }
+
+    fn offer_long(&mut self, store: &[u8], buffer: &mut [u8], offer: Offer<'_>) -> Result<(), u32> {
+        answered(unsafe {
+            plain_sender_offer_long(
+                self,
+                store.len(),
+                buffer.as_mut_ptr(),
+                buffer.len(),
+                offer.priority,
+                offer.repetition,
+                offer.message.as_ptr(),
+                offer.message.len(),
+            )
+        })
+    }
+
+    fn block_beside(
+        &mut self,
+        store: &[u8],
+        buffer: &[u8],
+        ask: Ask<'_>,
+        block: &mut [u8],
+    ) -> Result<BlockAnswer, u32> {
+        let mut answer = BlockAnswer::default();
+        let system = PlainSystem::of(ask);
+        answered(unsafe {
+            plain_sender_block_beside(
+                self,
+                store.as_ptr(),
+                store.len(),
+                buffer.as_ptr(),
+                buffer.len(),
+                ask.n,
+                ask.n,
+                system.as_ref().map_or(ptr::null(), ptr::from_ref),
+                block.as_mut_ptr(),
+                block.len(),
+                &mut answer,
+            )
+        })?;
+        Ok(answer)
+    }
+}
+
 impl Receiver for PlainReceiver {
     fn list(&mut self, list: &[u8]) -> Result<(), u32> {
         answered(unsafe { plain_receiver_list(self, list.as_ptr(), list.len()) })
@@ -290,6 +413,33 @@ impl Receiver for PlainReceiver {
 
     fn read(&mut self, store: &mut [u8], bits: &[u8], part: Part) -> Result<ReadAnswer, u32> {
         self.read_by(plain_receiver_read, store, bits, part)
+    }
+}
+
+impl LongReceiver for PlainReceiver {
+    fn read_beside(
+        &mut self,
+        store: &mut [u8],
+        buffer: &mut [u8],
+        bits: &[u8],
+        part: Part,
+    ) -> Result<ReadAnswer, u32> {
+        let mut answer = ReadAnswer::default();
+        answered(unsafe {
+            plain_receiver_read_beside(
+                self,
+                store.as_mut_ptr(),
+                store.len(),
+                buffer.as_mut_ptr(),
+                buffer.len(),
+                bits.as_ptr(),
+                bits.len(),
+                part.from,
+                part.to,
+                &mut answer,
+            )
+        })?;
+        Ok(answer)
     }
 }
 

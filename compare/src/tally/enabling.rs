@@ -1,6 +1,6 @@
 //! What was seen of the enable bits in force (02, ask 4).
 
-use super::{add, line, unseen};
+use super::{add, line, unseen, Lent};
 use aes18_reference::calls::BlockCall;
 use aes18_reference::packet::{packet_count, System};
 use aes18_reference::records::{SenderRecord, SenderSlot, ALL_ENABLED, ENABLE, SENDER_RECORD};
@@ -72,23 +72,17 @@ fn enabled(enable: u8, slot: &SenderSlot) -> bool {
 }
 
 /// The number of circuits of a record that is out of range by its bits alone.
-fn out_by_bits(record: &[u8]) -> Option<usize> {
-    let mut other = record.to_vec();
+fn out_by_bits(lent: &Lent<'_>) -> Option<usize> {
+    let mut other = lent.record.to_vec();
     other[ENABLE] = ALL_ENABLED;
-    let other = SenderRecord::unpack(&other)?;
-    (record[ENABLE] > ALL_ENABLED).then_some(other.circuits.len())
+    let other = SenderRecord::unpack(&other, lent.given())?;
+    (lent.record[ENABLE] > ALL_ENABLED).then_some(other.circuits.len())
 }
 
 impl Enabling {
-    /// Counts a block call by the number answered, its record before and after it, and the answer.
-    pub fn block(
-        &mut self,
-        answered: u32,
-        before: &[u8],
-        call: BlockCall<'_>,
-        after: &[u8],
-        answer: &[u8],
-    ) {
+    /// Counts a block call by what it was lent, its record after it, and the answer.
+    pub fn block(&mut self, lent: &Lent<'_>, call: BlockCall<'_>, after: &[u8], answer: &[u8]) {
+        let (answered, before) = (lent.answered, lent.record);
         if before.len() < SENDER_RECORD {
             return;
         }
@@ -96,12 +90,13 @@ impl Enabling {
             self.add_refused(answered, before[ENABLE], system);
         }
         if answered == 14 {
-            add_out(&mut self.blocks_out, &mut self.above, before);
+            add_out(&mut self.blocks_out, &mut self.above, lent);
         }
         if answered != 0 {
             return;
         }
-        let records = (SenderRecord::unpack(before), SenderRecord::unpack(after));
+        let unpack = |record| SenderRecord::unpack(record, lent.given());
+        let records = (unpack(before), unpack(after));
         if let (Some(before), Some(after)) = records {
             let used = u64::from(answer[4]) + 256 * u64::from(answer[5]);
             self.bits[usize::from(after.enable)] += 1;
@@ -110,10 +105,11 @@ impl Enabling {
         }
     }
 
-    /// Counts an offer by the number answered and its record before it.
-    pub fn offer(&mut self, answered: u32, before: &[u8]) {
+    /// Counts an offer by what it was lent.
+    pub fn offer(&mut self, lent: &Lent<'_>) {
+        let (answered, before) = (lent.answered, lent.record);
         if answered == 14 {
-            add_out(&mut self.offers_out, &mut self.above, before);
+            add_out(&mut self.offers_out, &mut self.above, lent);
         } else if before.len() >= SENDER_RECORD {
             let barred = before[ENABLE] != ALL_ENABLED;
             let seen = [barred && answered == 0, barred && answered != 0];
@@ -219,12 +215,12 @@ impl Enabling {
 }
 
 /// Counts a record that was refused by 14, if that is by its bits alone.
-fn add_out(circuits: &mut [u64; 5], above: &mut [u64; 3], record: &[u8]) {
-    let Some(count) = out_by_bits(record) else {
+fn add_out(circuits: &mut [u64; 5], above: &mut [u64; 3], lent: &Lent<'_>) {
+    let Some(count) = out_by_bits(lent) else {
         return;
     };
     circuits[count] += 1;
-    let bits = record[ENABLE];
+    let bits = lent.record[ENABLE];
     add(above, [bits == 16, (17..=254).contains(&bits), bits == 255]);
 }
 

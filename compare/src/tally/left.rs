@@ -1,6 +1,6 @@
 //! What was seen of the packets still to go (02, ask 5).
 
-use super::{add, line, unseen};
+use super::{add, line, unseen, Lent};
 use crate::inputs::mend_left;
 use aes18_reference::packet::packet_count;
 use aes18_reference::records::{SenderRecord, SenderSlot, LAST_SERVED, SENDER_SLOT, SLOTS};
@@ -34,7 +34,7 @@ const CALLS: [&str; 2] = ["in a block call", "in an offer"];
 const BLOCK: usize = 0;
 const OFFER: usize = 1;
 /// Packets of an accepted offer.
-const OFFERS: [&str; 3] = ["1", "2 to 255", "256"];
+const OFFERS: [&str; 6] = ["1", "2 to 255", "256", "257", "258 to 4,096", "4,097"];
 
 #[derive(Default)]
 pub struct Left {
@@ -47,7 +47,7 @@ pub struct Left {
     not_judged: [u64; 4],
     unlisted: [u64; 8],
     made: [u64; 6],
-    offers: [u64; 3],
+    offers: [u64; 6],
 }
 
 /// A record that is out of range by one field alone: how many circuits it lists, and the circuit number and slot of that field.
@@ -57,11 +57,11 @@ struct Out {
     slot: SenderSlot,
 }
 
-fn out_by_field(record: &[u8]) -> Option<Out> {
-    let mut mended = record.to_vec();
+fn out_by_field(lent: &Lent<'_>) -> Option<Out> {
+    let mut mended = lent.record.to_vec();
     mend_left(&mut mended);
-    let right = SenderRecord::unpack(&mended)?;
-    let told = slots(record).zip(right.slots);
+    let right = SenderRecord::unpack(&mended, lent.given())?;
+    let told = slots(lent.record).zip(right.slots);
     let mut wrong = told.enumerate().filter(|(_, (slot, right))| slot != right);
     let (number, (slot, _)) = wrong.next()?;
     wrong.next().is_none().then_some(Out {
@@ -94,33 +94,33 @@ fn wrong(slot: &SenderSlot) -> [bool; 8] {
 }
 
 impl Left {
-    /// Counts a block call by the number answered and its record before and after it.
-    pub fn block(&mut self, answered: u32, before: &[u8], after: &[u8]) {
-        if self.judged(BLOCK, answered, before) {
-            self.add_made(before, after);
+    /// Counts a block call by what it was lent and its record after it.
+    pub fn block(&mut self, lent: &Lent<'_>, after: &[u8]) {
+        if self.judged(BLOCK, lent) {
+            self.add_made(lent.record, after);
         }
     }
 
     /// Counts an offer in the same way.
-    pub fn offer(&mut self, answered: u32, before: &[u8], after: &[u8]) {
-        if self.judged(OFFER, answered, before) {
-            self.add_offered(before, after);
+    pub fn offer(&mut self, lent: &Lent<'_>, after: &[u8]) {
+        if self.judged(OFFER, lent) {
+            self.add_offered(lent.record, after);
         }
     }
 
     /// Counts what the fields of a call's record have, by the number answered; whether the call was accepted.
-    fn judged(&mut self, call: usize, answered: u32, record: &[u8]) -> bool {
-        match answered {
-            0 => self.add_not_judged(record),
-            14 => self.add_out(call, record),
+    fn judged(&mut self, call: usize, lent: &Lent<'_>) -> bool {
+        match lent.answered {
+            0 => self.add_not_judged(lent.record),
+            14 => self.add_out(call, lent),
             _ => {}
         }
-        answered == 0
+        lent.answered == 0
     }
 
     /// Counts a record that was refused by 14, if that is by one field alone.
-    fn add_out(&mut self, call: usize, record: &[u8]) {
-        let Some(out) = out_by_field(record) else {
+    fn add_out(&mut self, call: usize, lent: &Lent<'_>) {
+        let Some(out) = out_by_field(lent) else {
             return;
         };
         let wrong = wrong(&out.slot);
@@ -143,7 +143,14 @@ impl Left {
         let mut both = slots(before).zip(slots(after));
         if let Some((_, slot)) = both.find(|(old, new)| old != new) {
             let left = slot.left;
-            let seen = [left == 1, (2..=255).contains(&left), left == 256];
+            let seen = [
+                left == 1,
+                (2..=255).contains(&left),
+                left == 256,
+                left == 257,
+                (258..=4096).contains(&left),
+                left == 4097,
+            ];
             add(&mut self.offers, seen);
         }
     }

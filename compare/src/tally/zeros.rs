@@ -57,10 +57,10 @@ fn in_both(frame: &Frame) -> bool {
 }
 
 /// The zeros of the frame that was picked and did not fit, which is the one that this record's next block begins with.
-fn unplaced(record: &[u8], store: &[u8]) -> Option<usize> {
-    let mut sender = Sender::resume(record, store).ok()?;
-    let made = sender.block(store, 256, 256, None, &mut [0; 32]).ok()?;
-    made.frames.first().map(|frame| frame.zeros)
+fn unplaced(record: &[u8], store: &[u8], long: Option<&[u8]>) -> Option<usize> {
+    let mut sender = Sender::resume_beside(record, store, long).ok()?;
+    let made = sender.block_beside(store, long, 256, 256, None, &mut [0; 32]);
+    made.ok()?.frames.first().map(|frame| frame.zeros)
 }
 
 impl Zeros {
@@ -76,8 +76,8 @@ impl Zeros {
         add(&mut self.answers, seen);
     }
 
-    /// Counts an accepted block by its frames, and the record that it left.
-    pub fn block(&mut self, frames: &[Frame], record: &[u8], store: &[u8]) {
+    /// Counts an accepted block by its frames, the record that it left, and what is lent beside that.
+    pub fn block(&mut self, frames: &[Frame], record: &[u8], store: &[u8], long: Option<&[u8]>) {
         for frame in frames {
             self.add_frame(frame);
         }
@@ -85,7 +85,7 @@ impl Zeros {
             frames.iter().partition(|frame| frame.is_system());
         let with_zeros = placed.iter().filter(|frame| frame.zeros() > 0).count();
         let mut pairs = frames.windows(2);
-        let unplaced = unplaced(record, store).unwrap_or(0);
+        let unplaced = unplaced(record, store, long).unwrap_or(0);
         let seen = [
             frames.is_empty(),
             !system.is_empty() && placed.is_empty(),

@@ -6,7 +6,7 @@ use crate::inputs;
 use crate::random::Random;
 use aes18_reference::calls::{BlockCall, OfferCall, ReadCall};
 use aes18_reference::receiver::{Fate, Notice};
-use aes18_reference::{LONGEST_MESSAGE, REGION};
+use aes18_reference::LONGEST_MESSAGE;
 
 /// Every length from 0 to 4,094, at each circuit in turn: exactly the message sent is handed over.
 pub fn all(both: &mut Both, random: &mut Random) -> Compared<()> {
@@ -37,7 +37,7 @@ pub fn all(both: &mut Both, random: &mut Random) -> Compared<()> {
 }
 
 /// Makes blocks until nothing waits and reads them: the messages handed over, with their circuits.
-fn handed_over(
+pub fn handed_over(
     both: &mut Both,
     sending: &mut Sending,
     reading: &mut Reading,
@@ -61,14 +61,14 @@ fn handed_over(
             from: 0,
             to: call.n,
         };
-        reading.read_all(both, call, &mut |notice, store| {
+        reading.read_all(both, call, &mut |notice, message| {
             if let Notice::Circuit {
                 number,
                 loss: 0,
-                fate: Fate::Whole(length),
+                fate: Fate::Whole(_),
             } = notice
             {
-                messages.push((number, store[REGION * number..][..length].to_vec()));
+                messages.push((number, message.to_vec()));
             }
         })?;
     }

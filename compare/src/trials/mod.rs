@@ -7,6 +7,8 @@ pub mod left;
 pub mod lengths;
 pub mod lines;
 pub mod listing;
+pub mod long;
+pub mod long_slots;
 pub mod packets;
 pub mod passes;
 pub mod reading;

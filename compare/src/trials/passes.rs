@@ -1,7 +1,8 @@
 //! Demand 3 on whole passes. A sender's blocks are joined, damaged and read; which frames came whole follows from where each bit came from. If
 //! no other body passes, then at each address at which never more than six packets in a row are lost, the losses told add up to the packets
 //! lost between the first and the last to come, and exactly the messages of which every packet came are handed over, in order. The totals have these
-//! losses, and the number and bytes of these messages.
+//! losses, and the number and bytes of these messages. At an address that was sent long messages (02, ask 7) what is handed over is held only if the
+//! receiver has the buffer and lists that address as its circuit 0; the losses always are.
 
 use crate::both::{differ, Both, Compared};
 use crate::damage::{drop_or_double, joined, tear, values, Bit};
@@ -9,12 +10,13 @@ use crate::ends::{Reading, Sending};
 use crate::inputs;
 use crate::random::Random;
 use aes18_reference::bits::bits_of;
-use aes18_reference::calls::{BlockCall, OfferCall};
+use aes18_reference::calls::{BlockCall, LongOfferCall, OfferCall};
 use aes18_reference::hdlc::{bodies, judge, Judged, FLAG};
+use aes18_reference::lent::is_long;
 use aes18_reference::packet::{packet_count, Circuit};
 use aes18_reference::receiver::{Fate, Notice};
 use aes18_reference::totals::Figures;
-use aes18_reference::REGION;
+use aes18_reference::SHORTEST_LONG;
 use std::collections::{HashMap, VecDeque};
 use std::ops::Range;
 
@@ -27,6 +29,24 @@ struct Sent {
     waiting: VecDeque<usize>,
     /// How many packets its messages have.
     packets: usize,
+}
+
+impl Sent {
+    /// Notes an accepted offer.
+    fn take(&mut self, message: Vec<u8>, repetition: u64) {
+        let numbers = self.packets..self.packets + packet_count(message.len());
+        self.packets = numbers.end;
+        for number in numbers.clone() {
+            self.waiting.extend(vec![number; repetition as usize + 1]);
+        }
+        self.messages.push((message, numbers));
+    }
+
+    fn has_long(&self) -> bool {
+        self.messages
+            .iter()
+            .any(|(message, _)| is_long(message.len()))
+    }
 }
 
 /// A frame in the joined bits, both flags included, with circuit number and packet number (none for a system packet's).
@@ -51,21 +71,55 @@ struct Told {
 }
 
 pub fn pass(both: &mut Both, random: &mut Random) -> Compared<()> {
+    run(both, random, false)
+}
+
+/// With long messages at the sender's circuit 0.
+pub fn long_pass(both: &mut Both, random: &mut Random) -> Compared<()> {
+    run(both, random, true)
+}
+
+fn run(both: &mut Both, random: &mut Random, long: bool) -> Compared<()> {
     let list = inputs::list(random);
     let before = both.tally.enabling.held_over();
-    let pass = send(both, random, &list)?;
+    let mut sending = Sending::list(both, random, &list)?;
+    if long {
+        sending = sending.with_long(random);
+    }
+    let pass = send(both, random, &list, sending)?;
     let held_back = both.tally.enabling.held_over() > before;
-    let arrived = damaged(random, &pass);
-    let heard = receiver_list(random, &list);
-    let told = read(both, random, &heard, &arrived)?;
+    let times = random.pick(if long {
+        &[0, 1, 1, 2, 6]
+    } else {
+        &[0, 2, 4, 8, 16]
+    });
+    let arrived = damaged(random, &pass, times);
+    let heard = if long && random.once_in(2) {
+        list.clone()
+    } else {
+        receiver_list(random, &list)
+    };
+    let mut reading = Reading::list(both, random, &heard)?;
+    let takes_long = long && !random.once_in(4);
+    if takes_long {
+        reading = reading.with_long(random);
+    }
+    let told = read(both, random, reading, heard.len() / 3, &arrived)?;
     let Some(came) = came_whole(&pass, &arrived) else {
         both.tally.claim.other_frames += 1;
         return Ok(());
     };
     both.tally.claim.passes += 1;
     both.tally.claim.held_back += u64::from(held_back);
-    for (circuit, told) in inputs::circuits(&heard).iter().zip(told) {
-        check(both, &pass, &came, *circuit, told)?;
+    for (number, (circuit, told)) in inputs::circuits(&heard).iter().zip(told).enumerate() {
+        check(
+            both,
+            &pass,
+            &came,
+            *circuit,
+            takes_long && number == 0,
+            told,
+        )?;
     }
     Ok(())
 }
@@ -85,9 +139,8 @@ fn receiver_list(random: &mut Random, list: &[u8]) -> Vec<u8> {
     circuits.concat()
 }
 
-/// Offers and blocks, some of them refused, on a fresh sender.
-fn send(both: &mut Both, random: &mut Random, list: &[u8]) -> Compared<Pass> {
-    let mut sending = Sending::list(both, random, list)?;
+/// Offers and blocks, some of them refused, on a fresh sender; long messages among them if it has a long buffer.
+fn send(both: &mut Both, random: &mut Random, list: &[u8], mut sending: Sending) -> Compared<Pass> {
     let sent = |circuit| Sent {
         circuit,
         messages: vec![],
@@ -100,7 +153,11 @@ fn send(both: &mut Both, random: &mut Random, list: &[u8]) -> Compared<Pass> {
         frames: vec![],
         sent: inputs::circuits(list).into_iter().map(sent).collect(),
     };
-    for _ in 0..2 + random.below(14) {
+    let rounds = if sending.given.is_some() { 8 } else { 2 };
+    for _ in 0..rounds + random.below(14) {
+        if sending.given.is_some() && random.once_in(2) {
+            offer_long(both, random, &mut sending, &mut pass)?;
+        }
         for circuit in 0..4 {
             offer(both, random, &mut sending, &mut pass, circuit)?;
         }
@@ -131,14 +188,30 @@ fn offer(
         message: &message,
     };
     if sending.offer(both, call)? == 0 {
-        let sent = &mut pass.sent[call.circuit as usize];
-        let numbers = sent.packets..sent.packets + packet_count(length);
-        sent.packets = numbers.end;
-        for number in numbers.clone() {
-            sent.waiting
-                .extend(vec![number; call.repetition as usize + 1]);
-        }
-        sent.messages.push((message, numbers));
+        let (circuit, repetition) = (call.circuit as usize, call.repetition);
+        pass.sent[circuit].take(message, repetition);
+    }
+    Ok(())
+}
+
+/// Offers a long message, mostly a short one of these.
+fn offer_long(
+    both: &mut Both,
+    random: &mut Random,
+    sending: &mut Sending,
+    pass: &mut Pass,
+) -> Compared<()> {
+    let more = random.pick(&[2, 40, 400]);
+    let length = SHORTEST_LONG + random.below(more);
+    let message = inputs::message(random, length);
+    let call = LongOfferCall {
+        priority: random.argument(3),
+        repetition: random.pick(&[0, 0, 0, 0, 0, 1, 6]),
+        message: &message,
+    };
+    if sending.offer_long(both, call)? == 0 {
+        let repetition = call.repetition;
+        pass.sent[0].take(message, repetition);
     }
     Ok(())
 }
@@ -150,7 +223,10 @@ fn block(
     pass: &mut Pass,
 ) -> Compared<()> {
     let information = inputs::information(random);
-    let call = block_call(random, &information);
+    let mut call = block_call(random, &information);
+    if sending.given.is_some() && !random.once_in(4) {
+        (call.n, call.u) = (27_000, 26_800);
+    }
     let mut buffer = inputs::buffer(random, call.n);
     let Some(made) = sending.block(both, call, &mut buffer)? else {
         return Ok(());
@@ -187,36 +263,39 @@ fn block_call<'a>(random: &mut Random, information: &'a [u8]) -> BlockCall<'a> {
     }
 }
 
-/// The bits as they arrive: untouched, torn at some places, or in some passes worse.
-fn damaged(random: &mut Random, pass: &Pass) -> Vec<Bit> {
+/// The bits as they arrive: torn at so many places, or in some passes worse.
+fn damaged(random: &mut Random, pass: &Pass, times: usize) -> Vec<Bit> {
     let mut bits = joined(&pass.bits);
     if random.once_in(10) && !pass.block_ends.is_empty() {
         drop_or_double(random, &mut bits, &pass.block_ends);
     }
     let longest = random.pick(&[20, 100, 300, 600, 2000]);
-    for _ in 0..random.pick(&[0, 2, 4, 8, 16]) {
+    for _ in 0..times {
         tear(random, &mut bits, longest);
     }
     bits
 }
 
-/// What a fresh receiver of this list tells, for each of its circuits.
-fn read(both: &mut Both, random: &mut Random, list: &[u8], arrived: &[Bit]) -> Compared<Vec<Told>> {
-    let mut reading = Reading::list(both, random, list)?;
-    let mut told = vec![Told::default(); list.len() / 3];
+/// What a fresh receiver tells, for each of so many circuits.
+fn read(
+    both: &mut Both,
+    random: &mut Random,
+    mut reading: Reading,
+    circuits: usize,
+    arrived: &[Bit],
+) -> Compared<Vec<Told>> {
+    let mut told = vec![Told::default(); circuits];
     let longest = random.pick(&[50, 500, 5000, 50_000]);
     reading.read_pieces(
         both,
         random,
         &values(arrived),
         longest,
-        &mut |notice, store| {
+        &mut |notice, message| {
             if let Notice::Circuit { number, loss, fate } = notice {
                 told[number].losses += usize::from(loss);
-                if let Fate::Whole(length) = fate {
-                    told[number]
-                        .handed_over
-                        .push(store[REGION * number..][..length].to_vec());
+                if let Fate::Whole(_) = fate {
+                    told[number].handed_over.push(message.to_vec());
                 }
             }
         },
@@ -285,12 +364,14 @@ fn check(
     pass: &Pass,
     came: &[Vec<bool>],
     circuit: Circuit,
-    told: Told,
+    takes_long: bool,
+    mut told: Told,
 ) -> Compared<()> {
     let Some(number) = pass.sent.iter().position(|sent| sent.circuit == circuit) else {
         return hold(circuit, told, Told::default());
     };
-    let (messages, came) = (&pass.sent[number].messages, &came[number]);
+    let (sent, came) = (&pass.sent[number], &came[number]);
+    let messages = &sent.messages;
     let first = came.iter().position(|came| *came).unwrap_or(0);
     let behind_last = came
         .iter()
@@ -305,17 +386,28 @@ fn check(
     let all =
         |packets: &Range<usize>, is: bool| came[packets.clone()].iter().all(|came| *came == is);
     let whole = messages.iter().filter(|(_, packets)| all(packets, true));
-    let expected = Told {
+    let mut expected = Told {
         losses: between.iter().filter(|came| !**came).count(),
         handed_over: whole.map(|(message, _)| message.clone()).collect(),
     };
     let gone = |packets: &Range<usize>| {
         first < packets.start && packets.end < behind_last && all(packets, false)
     };
+    if sent.has_long() && !takes_long {
+        claim.losses_alone += 1;
+        expected.handed_over.clear();
+        told.handed_over.clear();
+        return hold(circuit, told, expected);
+    }
     claim.addresses += 1;
     claim.with_packets_lost += u64::from(expected.losses > 0);
     claim.with_messages_gone += u64::from(messages.iter().any(|(_, packets)| gone(packets)));
     claim.messages += expected.handed_over.len() as u64;
+    let part = |packets: &Range<usize>| !all(packets, true);
+    let lost_in_part = |(message, packets): &(Vec<u8>, _)| is_long(message.len()) && part(packets);
+    claim.long += u64::from(sent.has_long());
+    claim.long_lost += u64::from(messages.iter().any(lost_in_part));
+    claim.handed_over(&expected.handed_over);
     hold(circuit, told, expected)
 }
 

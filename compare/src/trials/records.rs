@@ -5,7 +5,8 @@ use crate::inputs::{self, any_length, every_byte, mend_left};
 use crate::random::Random;
 use crate::stream::stream;
 use aes18_reference::bits::bytes_of;
-use aes18_reference::calls::{BlockCall, OfferCall, ReadCall, BLOCK_ANSWER, READ_ANSWER};
+use aes18_reference::calls::{BlockCall, LongOfferCall, OfferCall, ReadCall};
+use aes18_reference::calls::{BLOCK_ANSWER, READ_ANSWER};
 use aes18_reference::packet::{packet_count, System};
 use aes18_reference::receiver::Receiver;
 use aes18_reference::records::{RECEIVER_RECORD, RECEIVER_SLOT, SENDER_RECORD, SENDER_SLOT, SLOTS};
@@ -86,11 +87,12 @@ fn receiver(random: &mut Random) -> Base {
     }
 }
 
-/// Offers and blocks with any record, any lengths and any numbers.
+/// Offers and blocks with any record, any lengths and any numbers, a half of them beside a long buffer.
 pub fn any_sender(both: &mut Both, random: &mut Random) -> Compared<()> {
     let base = sender(random);
     for _ in 0..8 {
         let mut store = any_length(random, &base.store);
+        let long = inputs::buffer_beside(random);
         let length = random.pick(&[0, 5, 15, 16, 40, 4094, 4095]);
         let message = inputs::message(random, length);
         let call = OfferCall {
@@ -100,18 +102,29 @@ pub fn any_sender(both: &mut Both, random: &mut Random) -> Compared<()> {
             message: &message,
         };
         let mut record = any_sender_record(random, &base.record);
-        both.sender_offer(&mut record, &mut store, call)?;
+        let lent = long.as_deref();
+        both.offer(&mut record, &mut store, lent, call)?;
         let information = inputs::information(random);
         let call = inputs::block_call(random, &information);
         let mut block = inputs::buffer(random, call.n);
         let mut answer = any_length(random, &[0x5A; BLOCK_ANSWER]);
         let mut record = any_sender_record(random, &base.record);
-        both.sender_block(&mut record, &store, call, &mut block, &mut answer)?;
+        both.block(&mut record, &store, lent, call, &mut block, &mut answer)?;
+        if let Some(mut long) = long {
+            let mut record = any_sender_record(random, &base.record);
+            let message = &message.repeat(1 + 4095 / message.len().max(1));
+            let call = LongOfferCall {
+                priority: random.argument(3),
+                repetition: random.argument(5),
+                message,
+            };
+            both.sender_offer_long(&mut record, &store, &mut long, call)?;
+        }
     }
     Ok(())
 }
 
-/// Reads with any record, any lengths and any numbers.
+/// Reads with any record, any lengths and any numbers, a half of them beside a long buffer.
 pub fn any_receiver(both: &mut Both, random: &mut Random) -> Compared<()> {
     let base = receiver(random);
     for _ in 0..8 {
@@ -126,7 +139,9 @@ pub fn any_receiver(both: &mut Both, random: &mut Random) -> Compared<()> {
         let mut answer = any_length(random, &[0x5A; READ_ANSWER]);
         let changed = changed(random, &base.record);
         let mut record = any_length(random, &changed);
-        both.receiver_read(&mut record, &mut store, call, &mut answer)?;
+        let mut long = inputs::buffer_beside(random);
+        let lent = long.as_deref_mut();
+        both.read(&mut record, &mut store, lent, call, &mut answer)?;
     }
     Ok(())
 }

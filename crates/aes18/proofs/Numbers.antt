@@ -1,4 +1,4 @@
--- The number of a call's answer is the number of its refusal: no refusal has a number above 17.
+-- The number of a call's answer is the number of its refusal: no refusal has a number above 19.
 use mathlib.Core.Path.{◌≡◌, refl, sym, ap, ◌∙◌}
 use Prim.Native.Nat.{ℕ, ◌≤◌}
 use native.Mathlib.Omega.{arith}
@@ -10,9 +10,10 @@ use Rattle.std.specs.Prelude.{Result, Ok, Err}
 use Rattle.packet.specs.declared.Refusal.{Refusal}
 use Rattle.packet.specs.Answers.{refusal_number, refusal_of, answer_number, answered, answer_of}
 use Rattle.packet.specs.Circuits.{circuits_refusal, list_refusal}
+use Rattle.packet.specs.Stores.{Stores}
 use Rattle.packet.proofs.AnswerNumbers.{answer_number-answer_of, answer_number-answered}
 use Rattle.offering.specs.declared.Sender.{Sender}
-use Rattle.offering.specs.Offering.{offer_refusal}
+use Rattle.offering.specs.Offering.{offer_refusal, long_refusal}
 use Rattle.sender.specs.Blocks.{System, block_refusal}
 use Rattle.receiver.specs.declared.Receiver.{Receiver}
 use Rattle.receiver.specs.Reading.{read_refusal}
@@ -22,12 +23,12 @@ use Rattle.framing_layout.specs.Reading.{framing_refusal}
 use Rattle.serial.specs.Octets.{line_frame}
 use Rattle.serial.specs.Writing.{write_refusal, write_answer}
 
--- the number of an answer that a number of at most 17 gives
-number : {n k : ℕ} {a : Result (Unit {0}) Refusal} → n ≤ 17 → k ≡ answer_number a → a ≡ answer_of n → k ≡ n
+-- the number of an answer that a number of at most 19 gives
+number : {n k : ℕ} {a : Result (Unit {0}) Refusal} → n ≤ 19 → k ≡ answer_number a → a ≡ answer_of n → k ≡ n
 number {n} most e f = e ∙ ap (λ (a : Result (Unit {0}) Refusal). answer_number a) f ∙ answer_number-answer_of n most
 
 -- a choice of two numbers
-choice : (t : Bool) (a b : ℕ) → a ≤ 17 → b ≤ 17 → cond t a b ≤ 17
+choice : (t : Bool) (a b : ℕ) → a ≤ 19 → b ≤ 19 → cond t a b ≤ 19
 choice true a b h k = h
 choice false a b h k = k
 
@@ -37,21 +38,27 @@ unfolding list_refusal circuits_refusal
 number_listed list k a =
     number (choice _ 1 _ (omega arith) (choice _ 2 _ (omega arith) (choice _ 3 _ (omega arith) (choice _ 4 0 (omega arith) (omega arith)))))
 
-pub number_offered : (s : Sender) (store : List ℕ) (c p r : ℕ) (m : List ℕ) (k : ℕ) (a : Result (Unit {0}) Refusal) → k ≡ answer_number a
-    → a ≡ answer_of (offer_refusal s store c p r m) → k ≡ offer_refusal s store c p r m
+pub number_offered : (s : Sender) (l : Stores) (c p r : ℕ) (m : List ℕ) (k : ℕ) (a : Result (Unit {0}) Refusal) → k ≡ answer_number a
+    → a ≡ answer_of (offer_refusal s l c p r m) → k ≡ offer_refusal s l c p r m
 unfolding offer_refusal
-number_offered s store c p r m k a =
-    number (choice _ 14 _ (omega arith) (choice _ 5 _ (omega arith) (choice _ 6 _ (omega arith) (choice _ 7 _ (omega arith) (choice _ 8 _ (omega arith) (choice _ 9 _ (omega arith) (choice _ 10 0 (omega arith) (omega arith))))))))
+number_offered s l c p r m k a =
+    number (choice _ 14 _ (omega arith) (choice _ 5 _ (omega arith) (choice _ 19 _ (omega arith) (choice _ 6 _ (omega arith) (choice _ 7 _ (omega arith) (choice _ 8 _ (omega arith) (choice _ 9 _ (omega arith) (choice _ 10 0 (omega arith) (omega arith)))))))))
 
-pub number_blocked : (s : Sender) (store buffer : List ℕ) (n u : ℕ) (y : System) (k : ℕ) (a : Result (Unit {0}) Refusal) → k ≡ answer_number a
-    → a ≡ answer_of (block_refusal s store buffer n u y) → k ≡ block_refusal s store buffer n u y
+pub number_offered_long : (s : Sender) (l : Stores) (p r : ℕ) (m : List ℕ) (k : ℕ) (a : Result (Unit {0}) Refusal) → k ≡ answer_number a
+    → a ≡ answer_of (long_refusal s l p r m) → k ≡ long_refusal s l p r m
+unfolding long_refusal
+number_offered_long s l p r m k a =
+    number (choice _ 14 _ (omega arith) (choice _ 5 _ (omega arith) (choice _ 19 _ (omega arith) (choice _ 6 _ (omega arith) (choice _ 7 _ (omega arith) (choice _ 8 _ (omega arith) (choice _ 18 _ (omega arith) (choice _ 10 0 (omega arith) (omega arith)))))))))
+
+pub number_blocked : (s : Sender) (l : Stores) (buffer : List ℕ) (n u : ℕ) (y : System) (k : ℕ) (a : Result (Unit {0}) Refusal) → k ≡ answer_number a
+    → a ≡ answer_of (block_refusal s l buffer n u y) → k ≡ block_refusal s l buffer n u y
 unfolding block_refusal
-number_blocked s store buffer n u y k a =
-    number (choice _ 14 _ (omega arith) (choice _ 5 _ (omega arith) (choice _ 11 _ (omega arith) (choice _ 12 _ (omega arith) (choice _ 13 0 (omega arith) (omega arith))))))
+number_blocked s l buffer n u y k a =
+    number (choice _ 14 _ (omega arith) (choice _ 5 _ (omega arith) (choice _ 19 _ (omega arith) (choice _ 11 _ (omega arith) (choice _ 12 _ (omega arith) (choice _ 13 0 (omega arith) (omega arith)))))))
 
-pub number_read : (r : Receiver) (store bytes : List ℕ) (from to k : ℕ) (a : Result (Unit {0}) Refusal) → k ≡ answer_number a
-    → a ≡ answer_of (read_refusal r store bytes from to) → k ≡ read_refusal r store bytes from to
-number_read r store bytes from to k a = number (read_refusal-most r store bytes from to)
+pub number_read : (r : Receiver) (l : Stores) (bytes : List ℕ) (from to k : ℕ) (a : Result (Unit {0}) Refusal) → k ≡ answer_number a
+    → a ≡ answer_of (read_refusal r l bytes from to) → k ≡ read_refusal r l bytes from to
+number_read r l bytes from to k a = number (read_refusal-most r l bytes from to)
 
 pub number_framed : (f : Framing) (bits : List ℕ) (from to k : ℕ) (a : Result (Unit {0}) Refusal) → k ≡ answer_number a
     → a ≡ answer_of (framing_refusal f bits from to) → k ≡ framing_refusal f bits from to

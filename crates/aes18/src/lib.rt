@@ -1,9 +1,10 @@
 // The AES18 user-bit channel for C and Rust: the calls of document 01, with enable bits that hold over, packets still to go and added zeros (document 02,
-// asks 4 to 6), pass totals and the serial line (asks 1 and 3), and reading with the framing alone, over records and answers laid out in bytes
+// asks 4 to 6), long messages (ask 7), pass totals and the serial line (asks 1 and 3), and reading with the framing alone, over records and answers laid out in bytes
 // (include/aes18.h).
 #![tactic(auto)]
 
-ghost use Rattle.std.specs.Prelude.{◌≡◌};
+ghost use Rattle.std.specs.Prelude.{◌≡◌, true};
+ghost use Rattle.packet.specs.Stores.{stores, store_alone, stores_of};
 ghost use Rattle.aes18.specs.SenderCalls as sends;
 ghost use Rattle.aes18.specs.SenderCalls.{system_asked};
 ghost use Rattle.aes18.specs.ReceiverCalls as receives;
@@ -12,8 +13,9 @@ ghost use Rattle.aes18.specs.FramingCalls.{framing_read_answered, framing_read_r
 ghost use Rattle.aes18.specs.LineCalls.{line_write_answered, line_written, line_write_answer, line_read_answered, line_read_record, line_read_packet, line_read_answer};
 
 use layout::{answer_number, clipped, put_number};
+use offering::long::LongOffer;
 use offering::{Offer, Sender};
-use packet::Refusal;
+use packet::{Refusal, Stores};
 use receiver::Receiver;
 use sender::{BlockRequest, SystemPacket};
 use serial::writing::write;
@@ -36,19 +38,22 @@ pub fn aes18_sender_list(record: &mut [u8], list: &[u8]) -> u32
     answer_number(listed.answer)
 }
 
-// A message is offered at a circuit.
-#[tactic(auto, unfolding(crate::specs::Room::no_room, crate::specs::SenderCalls::offer_answered, crate::specs::SenderCalls::offer_record, crate::specs::SenderCalls::offer_store))]
-pub fn aes18_sender_offer(
+// A message is offered at a circuit, beside the long buffer where it is given.
+// Stays: (a) eight parameters: they are those of the functions for C (include/aes18.h), and the buffer that one of them has.
+#[tactic(auto, unfolding(crate::specs::Room::no_room, crate::specs::SenderCalls::offer_answered, crate::specs::SenderCalls::offer_record, crate::specs::SenderCalls::offer_stores))]
+fn offer(
     record: &mut [u8],
     store: &mut [u8],
+    given: bool,
+    buffer: &[u8],
     circuit: u64,
     priority: u64,
     repetition: u64,
     message: &[u8],
 ) -> u32
-    ensures { (result ≡ sends.offer_answered «record».old store.old circuit priority repetition message.now)
-        × («record».new ≡ sends.offer_record «record».old store.old circuit priority repetition message.now)
-        × (store.new ≡ sends.offer_store «record».old store.old circuit priority repetition message.now) }
+    ensures { (result ≡ sends.offer_answered «record».old (stores store.old given buffer.now) circuit priority repetition message.now)
+        × («record».new ≡ sends.offer_record «record».old (stores store.old given buffer.now) circuit priority repetition message.now)
+        × (stores store.new given buffer.now ≡ sends.offer_stores «record».old (stores store.old given buffer.now) circuit priority repetition message.now) }
 {
     if record.len() < sender_layout::LENGTH {
         return NO_ROOM;
@@ -59,15 +64,84 @@ pub fn aes18_sender_offer(
         repetition: clipped(repetition),
         message,
     };
-    answer_number(sender_calls::offer(record, store, offer))
+    answer_number(sender_calls::offer(record, store, given, buffer, offer))
 }
 
-// A block of n bits, of which u may be used, with a system packet where `system` is not 0. Its enable bits are in force from then on.
-// Stays: (a) `system` beside three numbers, and ten parameters: they are those of the function for C (include/aes18.h).
-#[tactic(auto, unfolding(crate::specs::Room::no_room, crate::specs::SenderCalls::block_answered, crate::specs::SenderCalls::block_record, crate::specs::SenderCalls::block_written, crate::specs::SenderCalls::block_answer))]
-pub fn aes18_sender_block(
+// A message is offered at a circuit.
+pub fn aes18_sender_offer(
+    record: &mut [u8],
+    store: &mut [u8],
+    circuit: u64,
+    priority: u64,
+    repetition: u64,
+    message: &[u8],
+) -> u32
+    ensures { (result ≡ sends.offer_answered «record».old (store_alone store.old) circuit priority repetition message.now)
+        × («record».new ≡ sends.offer_record «record».old (store_alone store.old) circuit priority repetition message.now)
+        × (store_alone store.new ≡ sends.offer_stores «record».old (store_alone store.old) circuit priority repetition message.now) }
+{
+    offer(
+        record,
+        store,
+        false,
+        &[],
+        circuit,
+        priority,
+        repetition,
+        message,
+    )
+}
+
+// The same of a sender that has a long buffer beside the store.
+pub fn aes18_sender_offer_beside(
+    record: &mut [u8],
+    store: &mut [u8],
+    buffer: &[u8],
+    circuit: u64,
+    priority: u64,
+    repetition: u64,
+    message: &[u8],
+) -> u32
+    ensures { (result ≡ sends.offer_answered «record».old (stores store.old true buffer.now) circuit priority repetition message.now)
+        × («record».new ≡ sends.offer_record «record».old (stores store.old true buffer.now) circuit priority repetition message.now)
+        × (stores store.new true buffer.now ≡ sends.offer_stores «record».old (stores store.old true buffer.now) circuit priority repetition message.now) }
+{
+    offer(
+        record, store, true, buffer, circuit, priority, repetition, message,
+    )
+}
+
+// A long message is offered at circuit 0.
+#[tactic(auto, unfolding(crate::specs::Room::no_room, crate::specs::SenderCalls::long_answered, crate::specs::SenderCalls::long_record, crate::specs::SenderCalls::long_stores))]
+pub fn aes18_sender_offer_long(
     record: &mut [u8],
     store: &[u8],
+    buffer: &mut [u8],
+    priority: u64,
+    repetition: u64,
+    message: &[u8],
+) -> u32
+    ensures { (result ≡ sends.long_answered «record».old (stores store.now true buffer.old) priority repetition message.now)
+        × («record».new ≡ sends.long_record «record».old (stores store.now true buffer.old) priority repetition message.now)
+        × (stores store.now true buffer.new ≡ sends.long_stores «record».old (stores store.now true buffer.old) priority repetition message.now) }
+{
+    if record.len() < sender_layout::LENGTH {
+        return NO_ROOM;
+    }
+    let offer = LongOffer {
+        priority: clipped(priority),
+        repetition: clipped(repetition),
+        message,
+    };
+    answer_number(sender_calls::offer_long(record, store, buffer, offer))
+}
+
+// A block of n bits, of which u may be used, with a system packet where `system` is not 0, from what is lent.
+// Stays: (a) `system` beside three numbers, and ten parameters: they are those of the functions for C (include/aes18.h).
+#[tactic(auto, unfolding(crate::specs::Room::no_room, crate::specs::SenderCalls::block_answered, crate::specs::SenderCalls::block_record, crate::specs::SenderCalls::block_written, crate::specs::SenderCalls::block_answer))]
+fn make_block(
+    record: &mut [u8],
+    lent: Stores<'_>,
     n: u64,
     u: u64,
     system: u64,
@@ -77,10 +151,10 @@ pub fn aes18_sender_block(
     block: &mut [u8],
     answer: &mut [u8],
 ) -> u32
-    ensures { (result ≡ sends.block_answered «record».old store.now n u (system_asked system enable code info.now) block.old answer.old)
-        × («record».new ≡ sends.block_record «record».old store.now n u (system_asked system enable code info.now) block.old answer.old)
-        × (block.new ≡ sends.block_written «record».old store.now n u (system_asked system enable code info.now) block.old answer.old)
-        × (answer.new ≡ sends.block_answer «record».old store.now n u (system_asked system enable code info.now) block.old answer.old) }
+    ensures { (result ≡ sends.block_answered «record».old (stores_of lent.entry) n u (system_asked system enable code info.now) block.old answer.old)
+        × («record».new ≡ sends.block_record «record».old (stores_of lent.entry) n u (system_asked system enable code info.now) block.old answer.old)
+        × (block.new ≡ sends.block_written «record».old (stores_of lent.entry) n u (system_asked system enable code info.now) block.old answer.old)
+        × (answer.new ≡ sends.block_answer «record».old (stores_of lent.entry) n u (system_asked system enable code info.now) block.old answer.old) }
 {
     if record.len() < sender_layout::LENGTH {
         return NO_ROOM;
@@ -98,7 +172,74 @@ pub fn aes18_sender_block(
         u: u as usize,
         system: (system != 0).then_some(packet),
     };
-    answer_number(sender_calls::block(record, store, &request, block, answer))
+    answer_number(sender_calls::block(record, lent, &request, block, answer))
+}
+
+// A block of n bits, of which u may be used, with a system packet where `system` is not 0. Its enable bits are in force from then on.
+// Stays: (a) as for `make_block`.
+pub fn aes18_sender_block(
+    record: &mut [u8],
+    store: &[u8],
+    n: u64,
+    u: u64,
+    system: u64,
+    enable: u64,
+    code: u64,
+    info: &[u8],
+    block: &mut [u8],
+    answer: &mut [u8],
+) -> u32
+    ensures { (result ≡ sends.block_answered «record».old (store_alone store.now) n u (system_asked system enable code info.now) block.old answer.old)
+        × («record».new ≡ sends.block_record «record».old (store_alone store.now) n u (system_asked system enable code info.now) block.old answer.old)
+        × (block.new ≡ sends.block_written «record».old (store_alone store.now) n u (system_asked system enable code info.now) block.old answer.old)
+        × (answer.new ≡ sends.block_answer «record».old (store_alone store.now) n u (system_asked system enable code info.now) block.old answer.old) }
+{
+    make_block(
+        record,
+        Stores::alone(store),
+        n,
+        u,
+        system,
+        enable,
+        code,
+        info,
+        block,
+        answer,
+    )
+}
+
+// The same of a sender that has a long buffer beside the store.
+// Stays: (a) as for `make_block`.
+pub fn aes18_sender_block_beside(
+    record: &mut [u8],
+    store: &[u8],
+    buffer: &[u8],
+    n: u64,
+    u: u64,
+    system: u64,
+    enable: u64,
+    code: u64,
+    info: &[u8],
+    block: &mut [u8],
+    answer: &mut [u8],
+) -> u32
+    ensures { (result ≡ sends.block_answered «record».old (stores store.now true buffer.now) n u (system_asked system enable code info.now) block.old answer.old)
+        × («record».new ≡ sends.block_record «record».old (stores store.now true buffer.now) n u (system_asked system enable code info.now) block.old answer.old)
+        × (block.new ≡ sends.block_written «record».old (stores store.now true buffer.now) n u (system_asked system enable code info.now) block.old answer.old)
+        × (answer.new ≡ sends.block_answer «record».old (stores store.now true buffer.now) n u (system_asked system enable code info.now) block.old answer.old) }
+{
+    make_block(
+        record,
+        Stores::beside(store, buffer),
+        n,
+        u,
+        system,
+        enable,
+        code,
+        info,
+        block,
+        answer,
+    )
 }
 
 // A receiver's record, for the circuits of a list.
@@ -115,20 +256,23 @@ pub fn aes18_receiver_list(record: &mut [u8], list: &[u8]) -> u32
     answer_number(listed.answer)
 }
 
-// The bits from number `from` up to `to` are read until the first notice.
-#[tactic(auto, using(crate::proofs::Numbers::number_read), unfolding(crate::specs::Room::no_room, crate::specs::ReceiverCalls::read_answered, crate::specs::ReceiverCalls::read_record, crate::specs::ReceiverCalls::read_store, crate::specs::ReceiverCalls::read_answer, packet::specs::Answers::refusal_number, receiver_calls::specs::Reading::record_after_read, receiver::specs::Reading::store_after_read, receiver_calls::specs::Reading::answer_after_read))]
-pub fn aes18_receiver_read(
+// The bits from number `from` up to `to` are read until the first notice, beside the long buffer where it is given.
+// Stays: (a) eight parameters: they are those of the functions for C (include/aes18.h), and the buffer that one of them has.
+#[tactic(auto, using(crate::proofs::Numbers::number_read), unfolding(crate::specs::Room::no_room, crate::specs::ReceiverCalls::read_answered, crate::specs::ReceiverCalls::read_record, crate::specs::ReceiverCalls::read_stores, crate::specs::ReceiverCalls::read_answer, packet::specs::Answers::refusal_number, receiver_calls::specs::Reading::record_after_read, receiver::specs::Reading::stores_after_read, receiver_calls::specs::Reading::answer_after_read))]
+fn read(
     record: &mut [u8],
     store: &mut [u8],
+    given: bool,
+    buffer: &mut [u8],
     bits: &[u8],
     from: u64,
     to: u64,
     answer: &mut [u8],
 ) -> u32
-    ensures { (result ≡ receives.read_answered «record».old store.old bits.now from to answer.old)
-        × («record».new ≡ receives.read_record «record».old store.old bits.now from to answer.old)
-        × (store.new ≡ receives.read_store «record».old store.old bits.now from to answer.old)
-        × (answer.new ≡ receives.read_answer «record».old store.old bits.now from to answer.old) }
+    ensures { (result ≡ receives.read_answered «record».old (stores store.old given buffer.old) bits.now from to answer.old)
+        × («record».new ≡ receives.read_record «record».old (stores store.old given buffer.old) bits.now from to answer.old)
+        × (stores store.new given buffer.new ≡ receives.read_stores «record».old (stores store.old given buffer.old) bits.now from to answer.old)
+        × (answer.new ≡ receives.read_answer «record».old (stores store.old given buffer.old) bits.now from to answer.old) }
 {
     if record.len() < receiver_layout::LENGTH {
         return NO_ROOM;
@@ -139,8 +283,52 @@ pub fn aes18_receiver_read(
     if !receiver_layout::is_receiver(record) {
         return u32::from(Refusal::OutOfRange);
     }
-    let read = receiver_calls::read(record, store, bits, from as usize, to as usize, answer);
+    let read = receiver_calls::read(
+        record,
+        store,
+        given,
+        buffer,
+        bits,
+        from as usize,
+        to as usize,
+        answer,
+    );
     answer_number(read)
+}
+
+// The bits from number `from` up to `to` are read until the first notice.
+pub fn aes18_receiver_read(
+    record: &mut [u8],
+    store: &mut [u8],
+    bits: &[u8],
+    from: u64,
+    to: u64,
+    answer: &mut [u8],
+) -> u32
+    ensures { (result ≡ receives.read_answered «record».old (store_alone store.old) bits.now from to answer.old)
+        × («record».new ≡ receives.read_record «record».old (store_alone store.old) bits.now from to answer.old)
+        × (store_alone store.new ≡ receives.read_stores «record».old (store_alone store.old) bits.now from to answer.old)
+        × (answer.new ≡ receives.read_answer «record».old (store_alone store.old) bits.now from to answer.old) }
+{
+    read(record, store, false, &mut [], bits, from, to, answer)
+}
+
+// The same of a receiver that has a long buffer beside the store.
+pub fn aes18_receiver_read_beside(
+    record: &mut [u8],
+    store: &mut [u8],
+    buffer: &mut [u8],
+    bits: &[u8],
+    from: u64,
+    to: u64,
+    answer: &mut [u8],
+) -> u32
+    ensures { (result ≡ receives.read_answered «record».old (stores store.old true buffer.old) bits.now from to answer.old)
+        × («record».new ≡ receives.read_record «record».old (stores store.old true buffer.old) bits.now from to answer.old)
+        × (stores store.new true buffer.new ≡ receives.read_stores «record».old (stores store.old true buffer.old) bits.now from to answer.old)
+        × (answer.new ≡ receives.read_answer «record».old (stores store.old true buffer.old) bits.now from to answer.old) }
+{
+    read(record, store, true, buffer, bits, from, to, answer)
 }
 
 // A reading call's answer is noted in a record of pass totals.

@@ -2,7 +2,8 @@
 // Stays: (a) a twin of each function of aes18: a crate is a library or a static library, and C finds each under its own name.
 #![tactic(auto)]
 
-ghost use Rattle.std.specs.Prelude.{◌≡◌};
+ghost use Rattle.std.specs.Prelude.{◌≡◌, true};
+ghost use Rattle.packet.specs.Stores.{stores, store_alone};
 ghost use Rattle.aes18.specs.SenderCalls as sends;
 ghost use Rattle.aes18.specs.SenderCalls.{system_asked};
 ghost use Rattle.aes18.specs.ReceiverCalls as receives;
@@ -29,11 +30,48 @@ pub extern "C" fn aes18_sender_offer(
     repetition: u64,
     message: &[u8],
 ) -> u32
-    ensures { (result ≡ sends.offer_answered «record».old store.old circuit priority repetition message.now)
-        × («record».new ≡ sends.offer_record «record».old store.old circuit priority repetition message.now)
-        × (store.new ≡ sends.offer_store «record».old store.old circuit priority repetition message.now) }
+    ensures { (result ≡ sends.offer_answered «record».old (store_alone store.old) circuit priority repetition message.now)
+        × («record».new ≡ sends.offer_record «record».old (store_alone store.old) circuit priority repetition message.now)
+        × (store_alone store.new ≡ sends.offer_stores «record».old (store_alone store.old) circuit priority repetition message.now) }
 {
     aes18::aes18_sender_offer(record, store, circuit, priority, repetition, message)
+}
+
+// The same of a sender that has a long buffer beside the store.
+#[unsafe(no_mangle)]
+pub extern "C" fn aes18_sender_offer_beside(
+    record: &mut [u8],
+    store: &mut [u8],
+    buffer: &[u8],
+    circuit: u64,
+    priority: u64,
+    repetition: u64,
+    message: &[u8],
+) -> u32
+    ensures { (result ≡ sends.offer_answered «record».old (stores store.old true buffer.now) circuit priority repetition message.now)
+        × («record».new ≡ sends.offer_record «record».old (stores store.old true buffer.now) circuit priority repetition message.now)
+        × (stores store.new true buffer.now ≡ sends.offer_stores «record».old (stores store.old true buffer.now) circuit priority repetition message.now) }
+{
+    aes18::aes18_sender_offer_beside(
+        record, store, buffer, circuit, priority, repetition, message,
+    )
+}
+
+// A long message is offered at circuit 0.
+#[unsafe(no_mangle)]
+pub extern "C" fn aes18_sender_offer_long(
+    record: &mut [u8],
+    store: &[u8],
+    buffer: &mut [u8],
+    priority: u64,
+    repetition: u64,
+    message: &[u8],
+) -> u32
+    ensures { (result ≡ sends.long_answered «record».old (stores store.now true buffer.old) priority repetition message.now)
+        × («record».new ≡ sends.long_record «record».old (stores store.now true buffer.old) priority repetition message.now)
+        × (stores store.now true buffer.new ≡ sends.long_stores «record».old (stores store.now true buffer.old) priority repetition message.now) }
+{
+    aes18::aes18_sender_offer_long(record, store, buffer, priority, repetition, message)
 }
 
 // A block of n bits, of which u may be used, with a system packet where `system` is not 0. Its enable bits are in force from then on.
@@ -50,13 +88,38 @@ pub extern "C" fn aes18_sender_block(
     block: &mut [u8],
     answer: &mut [u8],
 ) -> u32
-    ensures { (result ≡ sends.block_answered «record».old store.now n u (system_asked system enable code info.now) block.old answer.old)
-        × («record».new ≡ sends.block_record «record».old store.now n u (system_asked system enable code info.now) block.old answer.old)
-        × (block.new ≡ sends.block_written «record».old store.now n u (system_asked system enable code info.now) block.old answer.old)
-        × (answer.new ≡ sends.block_answer «record».old store.now n u (system_asked system enable code info.now) block.old answer.old) }
+    ensures { (result ≡ sends.block_answered «record».old (store_alone store.now) n u (system_asked system enable code info.now) block.old answer.old)
+        × («record».new ≡ sends.block_record «record».old (store_alone store.now) n u (system_asked system enable code info.now) block.old answer.old)
+        × (block.new ≡ sends.block_written «record».old (store_alone store.now) n u (system_asked system enable code info.now) block.old answer.old)
+        × (answer.new ≡ sends.block_answer «record».old (store_alone store.now) n u (system_asked system enable code info.now) block.old answer.old) }
 {
     aes18::aes18_sender_block(
         record, store, n, u, system, enable, code, info, block, answer,
+    )
+}
+
+// The same of a sender that has a long buffer beside the store.
+#[unsafe(no_mangle)]
+pub extern "C" fn aes18_sender_block_beside(
+    record: &mut [u8],
+    store: &[u8],
+    buffer: &[u8],
+    n: u64,
+    u: u64,
+    system: u64,
+    enable: u64,
+    code: u64,
+    info: &[u8],
+    block: &mut [u8],
+    answer: &mut [u8],
+) -> u32
+    ensures { (result ≡ sends.block_answered «record».old (stores store.now true buffer.now) n u (system_asked system enable code info.now) block.old answer.old)
+        × («record».new ≡ sends.block_record «record».old (stores store.now true buffer.now) n u (system_asked system enable code info.now) block.old answer.old)
+        × (block.new ≡ sends.block_written «record».old (stores store.now true buffer.now) n u (system_asked system enable code info.now) block.old answer.old)
+        × (answer.new ≡ sends.block_answer «record».old (stores store.now true buffer.now) n u (system_asked system enable code info.now) block.old answer.old) }
+{
+    aes18::aes18_sender_block_beside(
+        record, store, buffer, n, u, system, enable, code, info, block, answer,
     )
 }
 
@@ -79,12 +142,31 @@ pub extern "C" fn aes18_receiver_read(
     to: u64,
     answer: &mut [u8],
 ) -> u32
-    ensures { (result ≡ receives.read_answered «record».old store.old bits.now from to answer.old)
-        × («record».new ≡ receives.read_record «record».old store.old bits.now from to answer.old)
-        × (store.new ≡ receives.read_store «record».old store.old bits.now from to answer.old)
-        × (answer.new ≡ receives.read_answer «record».old store.old bits.now from to answer.old) }
+    ensures { (result ≡ receives.read_answered «record».old (store_alone store.old) bits.now from to answer.old)
+        × («record».new ≡ receives.read_record «record».old (store_alone store.old) bits.now from to answer.old)
+        × (store_alone store.new ≡ receives.read_stores «record».old (store_alone store.old) bits.now from to answer.old)
+        × (answer.new ≡ receives.read_answer «record».old (store_alone store.old) bits.now from to answer.old) }
 {
     aes18::aes18_receiver_read(record, store, bits, from, to, answer)
+}
+
+// The same of a receiver that has a long buffer beside the store.
+#[unsafe(no_mangle)]
+pub extern "C" fn aes18_receiver_read_beside(
+    record: &mut [u8],
+    store: &mut [u8],
+    buffer: &mut [u8],
+    bits: &[u8],
+    from: u64,
+    to: u64,
+    answer: &mut [u8],
+) -> u32
+    ensures { (result ≡ receives.read_answered «record».old (stores store.old true buffer.old) bits.now from to answer.old)
+        × («record».new ≡ receives.read_record «record».old (stores store.old true buffer.old) bits.now from to answer.old)
+        × (stores store.new true buffer.new ≡ receives.read_stores «record».old (stores store.old true buffer.old) bits.now from to answer.old)
+        × (answer.new ≡ receives.read_answer «record».old (stores store.old true buffer.old) bits.now from to answer.old) }
+{
+    aes18::aes18_receiver_read_beside(record, store, buffer, bits, from, to, answer)
 }
 
 // A reading call's answer is noted in a record of pass totals.

@@ -6,6 +6,7 @@ use mathlib.Core.Path.{◌≡◌}
 use native.Mathlib.Omega.{arith}
 use lib.ListN.{length, length-append, length-map}
 use Rattle.hdlc.proofs.Ending.{length-flag}
+use Rattle.packet.specs.Stores.{Stores}
 use Rattle.offering.specs.declared.Sender.{Sender}
 use Rattle.sender.specs.Blocks.{frames_bits, flagged_frames, PlacedFrame, placed_packets, System, system_packets, enable_bits, block_filled, block_packets, used_bits, block_refusal}
 use Rattle.sender.specs.BlockCalls.{frames_placed, bits_used, zeros_added}
@@ -19,7 +20,7 @@ unfolding frames_bits
 frames_bits_long [] = omega arith
 frames_bits_long (p ∷ ps) = rw (length-append, length-append) (omega (arith, length-flag, frames_bits_long ps))
 
-placed_at_most_used : (s : Sender) (store : List ℕ) (u : ℕ) (y : System) → frames_placed s store u y ≤ bits_used s store u y
+placed_at_most_used : (s : Sender) (store : Stores) (u : ℕ) (y : System) → frames_placed s store u y ≤ bits_used s store u y
 unfolding used_bits flagged_frames block_packets placed_packets
 placed_at_most_used s store u y =
     let before = system_packets y in
@@ -28,7 +29,7 @@ placed_at_most_used s store u y =
     rw length-append
     (omega (arith, frames_bits_long (before ++ placed_packets frames), length-append before (placed_packets frames), same))
 
-module _ (s : Sender) (store buffer : List ℕ) (n u : ℕ) (y : System) (e : block_refusal s store buffer n u y ≡ 0) where
+module _ (s : Sender) (store : Stores) (buffer : List ℕ) (n u : ℕ) (y : System) (e : block_refusal s store buffer n u y ≡ 0) where
   pub used_fits : bits_used s store u y < 2 ^ 32
   used_fits =
       let a = accepted s store buffer n u y e in

@@ -12,7 +12,7 @@ use Rattle.bits.proofs.Lists.{sets_front}
 use Rattle.bits.proofs.Tests.{and_right}
 use Rattle.layout.specs.Layout.{low_bytes, number_at, packet_length}
 use Rattle.layout.proofs.Parts.{number_unpacks, number_after, length-low_bytes}
-use Rattle.packet.specs.Answers.{refusal_of, answered}
+use Rattle.packet.specs.Answers.{answered}
 use Rattle.serial.specs.declared.Line.{Line}
 use Rattle.serial.specs.declared.Reading.{Reading}
 use Rattle.serial.specs.Octets.{is_flag, line_frame, fits}

@@ -11,13 +11,14 @@ use lib.Dec.{ltb, eqb}
 use Rattle.bits.specs.Bits.{Bytes}
 use Rattle.bits.proofs.Lists.{sets_behind}
 use Rattle.packet.proofs.Choices.{cond_either}
+use Rattle.packet.proofs.LongBuffers.{longest_at_bounds}
 use Rattle.notices.specs.declared.Fate.{Fate}
 use Rattle.notices.specs.declared.Fate.TheVariants.{Copy, Begun, Held, Whole, Orphan, Wrong}
 use Rattle.notices.specs.declared.Notice.{Notice}
 use Rattle.notices.specs.declared.Notice.TheVariants.{End, Spoilt, Malformed, System, Elsewhere, Circuit}
 use Rattle.notices.proofs.NoticesInRange.{FateInRange, NoticeInRange}
 use Rattle.packet.specs.Lists.{AllAre}
-use Rattle.packet.specs.Messages.{longest}
+use Rattle.packet.specs.Messages.{longest_long}
 use Rattle.layout.specs.Fits.{Four}
 use Rattle.receiver_layout.specs.Answers.{read_answer_length, whole_length, read_answer_bytes}
 use Rattle.receiver_layout.proofs.AnswersRead.{length-read_answer_bytes}
@@ -58,8 +59,8 @@ noted_fit t Elsewhere fits = fits
 
 -- ---- a notice in range fits in an answer
 
-fate_fits : (fate : Fate) → FateInRange fate → whole_length fate < 65536
-unfolding FateInRange whole_length longest
+fate_fits : (fate : Fate) → FateInRange longest_long fate → whole_length fate < 65536
+unfolding FateInRange whole_length longest_long
 fate_fits Copy h = omega arith
 fate_fits Begun h = omega arith
 fate_fits Held h = omega arith
@@ -67,14 +68,24 @@ fate_fits (Whole n) h = omega (arith, h)
 fate_fits Orphan h = omega arith
 fate_fits Wrong h = omega arith
 
-notice_fits : (n : Notice) → NoticeInRange n → NoticeFits n
+-- what a message may have at most, it has at most where it may have more
+fate_wider : {a b : ℕ} (fate : Fate) → a ≤ b → FateInRange a fate → FateInRange b fate
+unfolding FateInRange
+fate_wider Copy le h = tt
+fate_wider Begun le h = tt
+fate_wider Held le h = tt
+fate_wider (Whole n) le h = omega arith
+fate_wider Orphan le h = tt
+fate_wider Wrong le h = tt
+
+notice_fits : (given : Bool) (n : Notice) → NoticeInRange given n → NoticeFits n
 unfolding NoticeInRange NoticeFits
-notice_fits End h = tt
-notice_fits Spoilt h = tt
-notice_fits Malformed h = tt
-notice_fits (System enable code n) h = omega (arith, h.information)
-notice_fits Elsewhere h = tt
-notice_fits (Circuit c loss fate) h = (omega (arith, h.number), fate_fits fate h.fate)
+notice_fits given End h = tt
+notice_fits given Spoilt h = tt
+notice_fits given Malformed h = tt
+notice_fits given (System enable code n) h = omega (arith, h.information)
+notice_fits given Elsewhere h = tt
+notice_fits given (Circuit c loss fate) h = (omega (arith, h.number), fate_fits fate (fate_wider fate (longest_at_bounds given c).1 h.fate))
 
 -- ---- noting
 
@@ -92,16 +103,16 @@ module _ (t : Totals) (fits : TotalsFit t) (rest : List ℕ) where
       (drop_at (totals_bytes t) rest (length (totals_bytes after)) (length-totals_bytes t ∙ sym (length-totals_bytes after))))
 
   -- the answer of a call that tells a notice in range, whatever the bytes were that were lent for it
-  pub answer_noted : (n : Notice) → NoticeInRange n → (bits : ℕ) (answer : List ℕ) → read_answer_length ≤ length answer
+  pub answer_noted : (given : Bool) (n : Notice) → NoticeInRange given n → (bits : ℕ) (answer : List ℕ) → read_answer_length ≤ length answer
       → note_record (totals_bytes t ++ rest) (sets answer 0 (read_answer_bytes n bits)) ≡ totals_bytes (noted t n) ++ rest
   unfolding noted_said
-  answer_noted n range bits answer long =
+  answer_noted given n range bits answer long =
       let told : List ℕ = read_answer_bytes n bits in
       let inside : length told ≤ length answer = omega (arith, length-read_answer_bytes n bits, long) in
       let again : read_answer_length ≤ length (sets answer 0 told) = rw (length-sets answer 0 told) long in
       note_carried (sets answer 0 told) again
       ∙ ap (λ said. totals_bytes (noted_said t said) ++ rest)
-      (ap notice_said (sets_behind [] answer told inside) ∙ notice_read_back n (notice_fits n range) bits (drop (length told) answer))
+      (ap notice_said (sets_behind [] answer told inside) ∙ notice_read_back n (notice_fits given n range) bits (drop (length told) answer))
 
 -- ---- an answer that counts nothing
 

@@ -12,12 +12,13 @@ use lib.Dec.{leb, eqb}
 use Rattle.bits.specs.Bits.{bits_of, Bytes}
 use Rattle.bits.proofs.Bits.{bit_value_lt, Bytes_append, Bytes-drop}
 use Rattle.bits.proofs.Lists.{sets_behind}
+use Rattle.packet.specs.Stores.{Stores}
 use Rattle.packet.specs.Circuits.{listing}
 use Rattle.framing.specs.declared.Framing.{Framing}
 use Rattle.notices.specs.declared.Slot.{Slot}
 use Rattle.receiver.specs.declared.Receiver.{Receiver}
 use Rattle.receiver.specs.Record.{fresh}
-use Rattle.receiver.specs.Reading.{read_by, read_scan, read_refusal, receiver_after_read, store_after_read, bits_read}
+use Rattle.receiver.specs.Reading.{read_by, read_scan, read_refusal, receiver_after_read, stores_after_read, bits_read}
 use Rattle.framing.proofs.Scanned.{scan-most}
 use Rattle.packet.proofs.Choices.{cond_either}
 use Rattle.layout.specs.Layout.{low_bytes, circuit_bytes, circuits_bytes}
@@ -30,7 +31,7 @@ use Rattle.layout.proofs.Parts.{four_elements}
 use Rattle.receiver_layout.proofs.AnswersRead.{length-read_answer_bytes, read_answer_unpacks}
 use Rattle.receiver_layout.proofs.ReceiverRoundTrip.{receiver_unpacks, receiver-fits, receiver_is}
 use Rattle.aes18.specs.Room.{no_room}
-use Rattle.aes18.specs.ReceiverCalls.{list_record, read_answered, read_record, read_store, read_answer}
+use Rattle.aes18.specs.ReceiverCalls.{list_record, read_answered, read_record, read_stores, read_answer}
 use Rattle.exported.proofs.Fitting.{circuits_Bytes}
 use Rattle.exported.proofs.ReceiverFitsKept.{fresh-fits, read_fits}
 
@@ -71,7 +72,7 @@ pub record Carried (bytes new : List ℕ) (r : Receiver) : Type 0 where
   pub long : length new ≡ length bytes
 
 -- no more bits are read than were asked for
-bits_read-most : (r : Receiver) (store bits : List ℕ) (from to : ℕ) → bits_read r store bits from to ≤ to
+bits_read-most : (r : Receiver) (store : Stores) (bits : List ℕ) (from to : ℕ) → bits_read r store bits from to ≤ to
 unfolding bits_read read_scan
 bits_read-most r store bits from to =
     let asked : List Bool = slice from to (bits_of bits) in
@@ -95,7 +96,7 @@ module _ (bytes : List ℕ) (are : Bytes bytes) (room : receiver_length ≤ leng
   unfolding list_record
   list_carries list listed = rw (le-ltb (length bytes) receiver_length room) (written_carried (fresh (listing list)) (fresh-fits list listed))
 
-  module _ (is : is_receiver bytes ≡ true) (store bits : List ℕ) (from to : ℕ) (answer : List ℕ) where
+  module _ (is : is_receiver bytes ≡ true) (store : Stores) (bits : List ℕ) (from to : ℕ) (answer : List ℕ) where
     pub read_number_lem : read_answered bytes store bits from to answer
         ≡ cond (leb read_answer_length (length answer)) (read_refusal (receiver_in bytes) store bits from to) no_room
     unfolding read_answered
@@ -139,16 +140,16 @@ module _ (bytes : List ℕ) (are : Bytes bytes) (room : receiver_length ≤ leng
             (λ refused. record { receiver = rw refused; is = is; each = are; long = refl }))
         go false e = rw e (record { receiver = refl; is = is; each = are; long = refl })
 
-    pub read-store : read_store bytes store bits from to answer
-        ≡ cond (leb read_answer_length (length answer)) (store_after_read (receiver_in bytes) store bits from to) store
-    unfolding read_store store_after_read no_room
+    pub read-store : read_stores bytes store bits from to answer
+        ≡ cond (leb read_answer_length (length answer)) (stores_after_read (receiver_in bytes) store bits from to) store
+    unfolding read_stores stores_after_read no_room
     read-store = go (leb read_answer_length (length answer)) read_number_lem
       where
         go : (t : Bool) → read_answered bytes store bits from to answer ≡ cond t (read_refusal (receiver_in bytes) store bits from to) no_room
-            → read_store bytes store bits from to answer ≡ cond t (store_after_read (receiver_in bytes) store bits from to) store
+            → read_stores bytes store bits from to answer ≡ cond t (stores_after_read (receiver_in bytes) store bits from to) store
         go true e =
             let r : Receiver = receiver_in bytes in
             rw e
-            (cond_either (λ new. new ≡ store_after_read r store bits from to) (eqb (read_refusal r store bits from to) 0) _ _
+            (cond_either (λ new. new ≡ stores_after_read r store bits from to) (eqb (read_refusal r store bits from to) 0) _ _
             (λ accepted. rw accepted) (λ refused. rw refused))
         go false e = rw e

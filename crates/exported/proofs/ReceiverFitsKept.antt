@@ -12,9 +12,11 @@ use Rattle.bits.specs.Bits.{bits_of, Bytes}
 use Rattle.bits.proofs.Bits.{Bytes-take}
 use Rattle.bits.proofs.Tests.{and_left, and_right}
 use Rattle.hdlc.specs.Stuffing.{end_ones}
+use Rattle.packet.specs.Stores.{Stores, longest_at}
 use Rattle.packet.specs.Circuits.{listed, listing, number_from}
-use Rattle.packet.specs.Messages.{longest}
+use Rattle.packet.specs.Messages.{longest_long}
 use Rattle.packet.proofs.Lists.{AllAre-replicate}
+use Rattle.packet.proofs.LongBuffers.{longest_at_bounds}
 use Rattle.framing.specs.declared.Framing.{Framing}
 use Rattle.framing.specs.declared.Check.{Check}
 use Rattle.framing.specs.declared.Check.TheVariants.{Packet, Spoilt, Nothing}
@@ -59,11 +61,11 @@ fresh-fits list are =
 
 -- ---- what is in range fits
 
-slot_fits : (t : Slot) → slot_in_range t ≡ true → ReceiverSlotFits t
-unfolding slot_in_range longest
-slot_fits t e =
+slot_fits : {most : ℕ} (t : Slot) → most ≤ longest_long → slot_in_range most t ≡ true → ReceiverSlotFits t
+unfolding slot_in_range longest_long
+slot_fits {most} t within e =
     let last : t.last ≤ 7 = leb-true t.last 7 (search (and_left, and_right)) in
-    let long : t.length ≤ longest = leb-true t.length longest (search (and_left, and_right)) in
+    let long : t.length ≤ most = leb-true t.length most (search (and_left, and_right)) in
     let place : t.place ≤ t.length = leb-true t.place t.length (search (and_left, and_right)) in
     record { last = omega arith; length_fits = omega arith; place = omega arith }
 
@@ -91,29 +93,30 @@ framing-fits f array e =
 
 -- ---- a packet
 
-module _ (r : Receiver) (p : List ℕ) (are : Bytes p) (range : in_range r ≡ true) (slots : Four ReceiverSlotFits r.slots) where
-  heard_by-fits : (n : Option ℕ) → number_from (listed r.circuits) (circuit_in p) 0 ≡ n → Four ReceiverSlotFits (heard_by n r.slots p).slots
+module _ (given : Bool) (r : Receiver) (p : List ℕ) (are : Bytes p) (range : in_range given r ≡ true) (slots : Four ReceiverSlotFits r.slots) where
+  heard_by-fits : (n : Option ℕ) → number_from (listed r.circuits) (circuit_in p) 0 ≡ n → Four ReceiverSlotFits (heard_by given n r.slots p).slots
   unfolding heard_by heard_at slot_at
   heard_by-fits None e = slots
   heard_by-fits (Some c) e =
-      let old : slot_in_range (slot_at r.slots c) ≡ true
-      = get_or-slots_in_range r.circuits.count r.slots c (number_lt r.circuits (circuit_in p) c e) (in_range_parts r range).slots in
-      Four-set ReceiverSlotFits r.slots c _ (slot_fits _ (slot_after_in_range (slot_at r.slots c) p are old)) slots
+      let old : slot_in_range (longest_at given c) (slot_at r.slots c) ≡ true
+      = get_or-slots_in_range given r.circuits.count r.slots c (number_lt r.circuits (circuit_in p) c e) (in_range_parts given r range).slots in
+      Four-set ReceiverSlotFits r.slots c _
+      (slot_fits _ (longest_at_bounds given c).1 (slot_after_in_range given c (slot_at r.slots c) p are old)) slots
 
-  heard-fits : Four ReceiverSlotFits (heard r.circuits r.slots p).slots
+  heard-fits : Four ReceiverSlotFits (heard given r.circuits r.slots p).slots
   unfolding heard system_heard
   heard-fits =
       cond_either (λ (h : Hearing). Four ReceiverSlotFits h.slots) (malformed p) _ _ (λ _. slots)
       (λ _. cond_either (λ (h : Hearing). Four ReceiverSlotFits h.slots) (eqb (address p) 0xff) _ _ (λ _. slots)
       (λ _. heard_by-fits (number_from (listed r.circuits) (circuit_in p) 0) refl))
 
-noticed-fits : (c : Check) (bytes : List ℕ) (r : Receiver) (store : List ℕ) → Bytes bytes → in_range r ≡ true → ReceiverFits r
+noticed-fits : (c : Check) (bytes : List ℕ) (r : Receiver) (store : Stores) → Bytes bytes → in_range store.given r ≡ true → ReceiverFits r
     → ReceiverFits (noticed c bytes r store).receiver
 unfolding noticed passed
 noticed-fits (Packet n) bytes r store are range fits =
     record {
       circuits = fits.circuits;
-      slots = heard-fits r (take n bytes) (Bytes-take n bytes are) range fits.slots;
+      slots = heard-fits store.given r (take n bytes) (Bytes-take n bytes are) range fits.slots;
       framing = fits.framing;
     }
 noticed-fits Spoilt bytes r store are range fits = fits
@@ -121,17 +124,17 @@ noticed-fits Nothing bytes r store are range fits = fits
 
 -- ---- a reading call
 
-module _ (r : Receiver) (store bits : List ℕ) (from to : ℕ) (fits : ReceiverFits r) where
+module _ (r : Receiver) (store : Stores) (bits : List ℕ) (from to : ℕ) (fits : ReceiverFits r) where
   array : Array21 r.framing.bits
   array = record { long = fits.framing.twenty_one; each = fits.framing.bits }
 
   -- a record out of range is left as it is
-  out_of_range : in_range r ≡ false → receiver_after_read r store bits from to ≡ r
+  out_of_range : in_range store.given r ≡ false → receiver_after_read r store bits from to ≡ r
   unfolding receiver_after_read read_refusal
   out_of_range e = rw e
 
   -- one in range has then the framing that the scan leaves
-  scanned_fits : in_range r ≡ true → ReceiverFits (with_framing r (read_scan r bits from to).framing)
+  scanned_fits : in_range store.given r ≡ true → ReceiverFits (with_framing r (read_scan r bits from to).framing)
   unfolding with_framing
   scanned_fits range =
       let f : Framing = (read_scan r bits from to).framing in
@@ -139,14 +142,14 @@ module _ (r : Receiver) (store bits : List ℕ) (from to : ℕ) (fits : Receiver
       record {
         circuits = fits.circuits;
         slots = fits.slots;
-        framing = framing-fits f (arrays r store bits from to array).left (in_range_parts (with_framing r f) after).framing;
+        framing = framing-fits f (arrays r store bits from to array).left (in_range_parts store.given (with_framing r f) after).framing;
       }
 
   pub read_fits : ReceiverFits (receiver_after_read r store bits from to)
   unfolding receiver_after_read read_by
-  read_fits = go (in_range r) refl
+  read_fits = go (in_range store.given r) refl
     where
-      go : (t : Bool) → in_range r ≡ t → ReceiverFits (receiver_after_read r store bits from to)
+      go : (t : Bool) → in_range store.given r ≡ t → ReceiverFits (receiver_after_read r store bits from to)
       go true range =
           let s : Scan = read_scan r bits from to in
           cond_either ReceiverFits (eqb (read_refusal r store bits from to) 0) _ _

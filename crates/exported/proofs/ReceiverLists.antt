@@ -8,6 +8,7 @@ use lib.ListN.{length}
 use lib.Seq.{sets}
 use lib.Dec.{eqb}
 use Rattle.bits.specs.Bits.{Bytes}
+use Rattle.packet.specs.Stores.{Stores}
 use Rattle.receiver.specs.Reading.{read_by, read_scan, read_refusal, bits_read}
 use Rattle.receiver.specs.Reads.{ReadCall, ReceiverEnd, fresh_receiver_end, after_read, after_reads}
 use Rattle.receiver_layout.specs.ReceiverBytes.{receiver_length, receiver_in}
@@ -103,7 +104,7 @@ module _ (bytes : List ℕ) (room : receiver_length ≤ length bytes) where
       (reads_carried cs (after_lent_read e c) (cond (read_has_room c) (after_read s c.call) s) (call_carried e s h c))
 
   -- so do a listing and any reading calls after it
-  pub calls_carried : Bytes bytes → (list : List ℕ) → Bytes list → (store : List ℕ) (cs : List LentRead)
+  pub calls_carried : Bytes bytes → (list : List ℕ) → Bytes list → (store : Stores) (cs : List LentRead)
       → CarriedEnd bytes (after_lent_reads (record { bytes = list_record bytes list; store = store }) cs) (after_reads (fresh_receiver_end list store) (reads_of cs))
   calls_carried are list listed store cs =
       reads_carried cs _ (fresh_receiver_end list store) (record { receiver = list_carries bytes are room list listed; store = refl })
@@ -111,7 +112,7 @@ module _ (bytes : List ℕ) (room : receiver_length ≤ length bytes) where
 -- ---- a record shorter than it has to be
 
 -- every call is answered by 255 and leaves all as it was
-module _ (bytes store : List ℕ) (short : length bytes < receiver_length) where
+module _ (bytes : List ℕ) (store : Stores) (short : length bytes < receiver_length) where
   lent : Lent
   lent = record { bytes = bytes; store = store }
 

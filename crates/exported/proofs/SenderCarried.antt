@@ -12,11 +12,12 @@ use borrow.Author.Tests.{lt-ltb, le-ltb, leb-true, leb-false}
 use Rattle.bits.specs.Bits.{Bytes}
 use Rattle.bits.proofs.Bits.{Bytes_append, Bytes-drop}
 use Rattle.bits.proofs.Lists.{sets_behind}
+use Rattle.packet.specs.Stores.{Stores}
 use Rattle.packet.specs.Circuits.{listing}
 use Rattle.offering.specs.declared.Slot.{Slot}
 use Rattle.offering.specs.declared.Sender.{Sender}
 use Rattle.offering.specs.Record.{fresh}
-use Rattle.offering.specs.Offering.{offer_refusal, offered_store, sender_after_offer, store_after_offer}
+use Rattle.offering.specs.Offering.{offer_refusal, offered_stores, sender_after_offer, stores_after_offer, long_refusal, offered_long, sender_after_long, stores_after_long}
 use Rattle.sender.specs.Blocks.{System, system_packets, enable_bits, block_bits, block_buffer, block_refusal, sender_after_block, buffer_after_block}
 use Rattle.sender.specs.BlockCalls.{frames_placed, bits_used, zeros_added}
 use Rattle.layout.specs.Layout.{low_bytes, circuit_bytes, circuits_bytes}
@@ -27,11 +28,11 @@ use Rattle.sender_layout.specs.Fits.{SenderSlotFits, SenderFits}
 use Rattle.layout.proofs.Parts.{four_elements}
 use Rattle.sender_layout.proofs.SenderRoundTrip.{sender_unpacks, sender-fits}
 use Rattle.aes18.specs.Room.{no_room}
-use Rattle.aes18.specs.SenderCalls.{list_record, offer_answered, offer_record, offer_store, block_answered, block_record, block_written, block_answer}
+use Rattle.aes18.specs.SenderCalls.{list_record, offer_answered, offer_record, offer_stores, long_answered, long_record, long_stores, block_answered, block_record, block_written, block_answer}
 use Rattle.sender_layout.proofs.AnswersRead.{length-block_answer_bytes, block_answer_unpacks}
 use Rattle.exported.proofs.BlockAnswers.{used_fits, placed_fits, zeros_fits}
 use Rattle.exported.proofs.Fitting.{low_bytes-Bytes, circuits_Bytes}
-use Rattle.exported.proofs.SenderFitsKept.{fits_fresh, fits-offered, fits-made}
+use Rattle.exported.proofs.SenderFitsKept.{fits_fresh, fits-offered, fits-offered_long, fits-made}
 
 -- ---- a record that fits is laid out in bytes
 
@@ -93,7 +94,7 @@ module _ (bytes : List ℕ) (are : Bytes bytes) (long : sender_length ≤ length
   unfolding list_record
   list_carries list all = rw (le-ltb (length bytes) sender_length long) (written (fresh (listing list)) (fits_fresh list all))
 
-  pub offer_carries : (store : List ℕ) (c p r : ℕ) (message : List ℕ)
+  pub offer_carries : (store : Stores) (c p r : ℕ) (message : List ℕ)
       → Carried bytes (offer_record bytes store c p r message) (sender_after_offer (sender_in bytes) store c p r message)
   unfolding offer_record offer_answered sender_after_offer
   offer_carries store c p r message =
@@ -101,7 +102,15 @@ module _ (bytes : List ℕ) (are : Bytes bytes) (long : sender_length ≤ length
       (written_or_left (eqb (offer_refusal (sender_in bytes) store c p r message) 0) (sender_after_offer (sender_in bytes) store c p r message)
       (fits-offered (sender_in bytes) store c p r message (sender-fits bytes are)) (λ e. rw e))
 
-  pub block_carries : (store : List ℕ) (n u : ℕ) (y : System) (block answer : List ℕ)
+  pub long_carries : (store : Stores) (p r : ℕ) (message : List ℕ)
+      → Carried bytes (long_record bytes store p r message) (sender_after_long (sender_in bytes) store p r message)
+  unfolding long_record long_answered sender_after_long
+  long_carries store p r message =
+      rw (le-ltb (length bytes) sender_length long)
+      (written_or_left (eqb (long_refusal (sender_in bytes) store p r message) 0) (sender_after_long (sender_in bytes) store p r message)
+      (fits-offered_long (sender_in bytes) store p r message (sender-fits bytes are)) (λ e. rw e))
+
+  pub block_carries : (store : Stores) (n u : ℕ) (y : System) (block answer : List ℕ)
       → Carried bytes (block_record bytes store n u y block answer)
       (cond (leb block_answer_length (length answer)) (sender_after_block (sender_in bytes) store block n u y) (sender_in bytes))
   unfolding block_record block_answered sender_after_block no_room
@@ -124,13 +133,20 @@ twice : {A : Type 0} (t : Bool) (x y : A) → cond t (cond t x y) y ≡ cond t x
 twice true x y = refl
 twice false x y = refl
 
-module _ (bytes : List ℕ) (long : sender_length ≤ length bytes) (store : List ℕ) where
+module _ (bytes : List ℕ) (long : sender_length ≤ length bytes) (store : Stores) where
   pub offer_answers : (c p r : ℕ) (message : List ℕ) → (offer_answered bytes store c p r message ≡ offer_refusal (sender_in bytes) store c p r message)
-      × (offer_store bytes store c p r message ≡ store_after_offer (sender_in bytes) store c p r message)
-  unfolding offer_answered offer_store store_after_offer
+      × (offer_stores bytes store c p r message ≡ stores_after_offer (sender_in bytes) store c p r message)
+  unfolding offer_answered offer_stores stores_after_offer
   offer_answers c p r message =
       rw (le-ltb (length bytes) sender_length long)
-      (refl, twice (eqb (offer_refusal (sender_in bytes) store c p r message) 0) (offered_store store c message) store)
+      (refl, twice (eqb (offer_refusal (sender_in bytes) store c p r message) 0) (offered_stores store c message) store)
+
+  pub long_answers : (p r : ℕ) (message : List ℕ) → (long_answered bytes store p r message ≡ long_refusal (sender_in bytes) store p r message)
+      × (long_stores bytes store p r message ≡ stores_after_long (sender_in bytes) store p r message)
+  unfolding long_answered long_stores stores_after_long
+  long_answers p r message =
+      rw (le-ltb (length bytes) sender_length long)
+      (refl, twice (eqb (long_refusal (sender_in bytes) store p r message) 0) (offered_long store message) store)
 
   module _ (n u : ℕ) (y : System) (block answer : List ℕ) where
     pub block_answers : (block_answered bytes store n u y block answer

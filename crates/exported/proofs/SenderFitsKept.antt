@@ -9,16 +9,19 @@ use lib.ListN.{length}
 use lib.Dec.{eqb}
 use borrow.Author.Tests.{eqb-true}
 use Rattle.bits.specs.Bits.{Bytes}
+use Rattle.packet.specs.Stores.{Stores}
 use Rattle.packet.specs.Circuits.{listing}
-use Rattle.packet.specs.Messages.{longest}
+use Rattle.packet.specs.Messages.{longest_long}
 use Rattle.packet.proofs.Lists.{AllAre-replicate}
 use Rattle.packet.proofs.Segments.{packets-most}
+use Rattle.packet.proofs.LongBuffers.{longest_at_bounds}
+use Rattle.packet.proofs.Choices.{cond_either}
 use Rattle.offering.specs.declared.Slot.{Slot}
 use Rattle.offering.specs.declared.Sender.{Sender}
 use Rattle.offering.specs.Record.{slot_at, fresh_slot, fresh, in_range}
-use Rattle.offering.specs.Offering.{offer_refusal, offered_slot, offered_sender, sender_after_offer}
-use Rattle.offering.proofs.Ranges.{SlotFacts, slot_in_range_facts, slot_in_range-slot_at}
-use Rattle.offering.proofs.Offers.{offer_refusal-zero}
+use Rattle.offering.specs.Offering.{offer_refusal, offered_slot, offered_sender, sender_after_offer, long_refusal, sender_after_long}
+use Rattle.offering.proofs.Ranges.{SlotFacts, slot_in_range_facts, slot_in_range-wide}
+use Rattle.offering.proofs.Offers.{OfferFacts, offer_refusal-zero, long_refusal-zero}
 use Rattle.picking.specs.Picking.{pick, advanced, served}
 use Rattle.picking.proofs.PickingLaws.{pick_waits, pick_lt, slot_in_range-advanced, served_in_range}
 use Rattle.writing.specs.NextFrame.{next_frame}
@@ -56,8 +59,8 @@ fits_fresh list are =
 
 -- ---- a slot in range
 
-slot_fits : (t : Slot) → SlotFacts t → SenderSlotFits t
-unfolding longest
+slot_fits : (t : Slot) → SlotFacts longest_long t → SenderSlotFits t
+unfolding longest_long
 slot_fits t f =
     record {
       index = omega (arith, f.index);
@@ -71,59 +74,67 @@ slot_fits t f =
 
 -- ---- offering
 
-pub fits-offered : (s : Sender) (store : List ℕ) (c p r : ℕ) (message : List ℕ) → SenderFits s → SenderFits (sender_after_offer s store c p r message)
-unfolding sender_after_offer offered_slot offered_sender
-fits-offered s store c p r message fits = go (eqb (offer_refusal s store c p r message) 0) refl
-  where
-    go : (t : Bool) → eqb (offer_refusal s store c p r message) 0 ≡ t → SenderFits (cond t (offered_sender s c p r message) s)
-    go true e =
-        let f = offer_refusal-zero s store c p r message (eqb-true _ 0 e) in
-        let t = slot_in_range_facts (slot_at s c) (slot_in_range-slot_at s c f.in_range f.circuit) in
-        record {
-          circuits = fits.circuits;
-          slots =
-              Four-set SenderSlotFits s.slots c _
-              (slot_fits _
-              (record {
-                index = t.index;
-                priority = f.priority;
-                repetition = f.repetition;
-                short = f.message;
-                place = omega arith;
-                copy = omega arith;
-                left = omega arith;
-              }))
-              fits.slots;
-          last = fits.last;
-          enable = fits.enable;
-        }
-    go false e = fits
-
--- ---- block making
-
-fits-served : (s : Sender) (enable c : ℕ) → in_range s ≡ true → pick s enable ≡ Some c → SenderFits s → SenderFits (served s c)
-unfolding served
-fits-served s enable c range p fits =
-    let f = pick_waits s enable c p in
-    let t = slot_in_range_facts _ (slot_in_range-advanced (slot_at s c) (slot_in_range-slot_at s c range f.count) f.pending) in
+fits-sent : (s : Sender) (store : Stores) (c p r : ℕ) (message : List ℕ) → OfferFacts s store c p r message → SenderFits s
+    → SenderFits (offered_sender s c p r message)
+unfolding offered_slot offered_sender
+fits-sent s store c p r message f fits =
+    let t = slot_in_range_facts (slot_at s c) (slot_in_range-wide store.given s c f.in_range f.circuit) in
     record {
       circuits = fits.circuits;
-      slots = Four-set SenderSlotFits s.slots c (advanced (slot_at s c)) (slot_fits (advanced (slot_at s c)) t) fits.slots;
-      last = omega (arith, pick_lt s enable c range p);
+      slots =
+          Four-set SenderSlotFits s.slots c _
+          (slot_fits _
+          (record {
+            index = t.index;
+            priority = f.priority;
+            repetition = f.repetition;
+            short = omega (arith, f.message, (longest_at_bounds store.given c).1);
+            place = omega arith;
+            copy = omega arith;
+            left = omega arith;
+          }))
+          fits.slots;
+      last = fits.last;
       enable = fits.enable;
     }
 
-fits_filled : (n : ℕ) (s : Sender) (store : List ℕ) (at enable u : ℕ) → in_range s ≡ true → SenderFits s → SenderFits (fill n s store at enable u).sender
+pub fits-offered : (s : Sender) (store : Stores) (c p r : ℕ) (message : List ℕ) → SenderFits s → SenderFits (sender_after_offer s store c p r message)
+unfolding sender_after_offer
+fits-offered s store c p r message fits =
+    cond_either SenderFits (eqb (offer_refusal s store c p r message) 0) _ _
+    (λ e. fits-sent s store c p r message (offer_refusal-zero s store c p r message (eqb-true _ 0 e)).offer fits) (λ _. fits)
+
+pub fits-offered_long : (s : Sender) (store : Stores) (p r : ℕ) (message : List ℕ) → SenderFits s → SenderFits (sender_after_long s store p r message)
+unfolding sender_after_long
+fits-offered_long s store p r message fits =
+    cond_either SenderFits (eqb (long_refusal s store p r message) 0) _ _
+    (λ e. fits-sent s store 0 p r message (long_refusal-zero s store p r message (eqb-true _ 0 e)).offer fits) (λ _. fits)
+
+-- ---- block making
+
+fits-served : (given : Bool) (s : Sender) (enable c : ℕ) → in_range given s ≡ true → pick s enable ≡ Some c → SenderFits s → SenderFits (served s c)
+unfolding served
+fits-served given s enable c range p fits =
+    let f = pick_waits s enable c p in
+    let t = slot_in_range_facts _ (slot_in_range-advanced _ (slot_at s c) (slot_in_range-wide given s c range f.count) f.pending) in
+    record {
+      circuits = fits.circuits;
+      slots = Four-set SenderSlotFits s.slots c (advanced (slot_at s c)) (slot_fits (advanced (slot_at s c)) t) fits.slots;
+      last = omega (arith, pick_lt given s enable c range p);
+      enable = fits.enable;
+    }
+
+fits_filled : (n : ℕ) (s : Sender) (store : Stores) (at enable u : ℕ) → in_range store.given s ≡ true → SenderFits s → SenderFits (fill n s store at enable u).sender
 unfolding fill full and_then
 fits_filled zero s store at enable u range fits = fits
 fits_filled (suc n) s store at enable u range fits =
     placing_cases (λ (f : Filled). SenderFits f.sender) (pick s enable) s store at u
     (λ c. fill n (served s c) store (at + length (next_frame s store c)) enable u) fits
     (λ c p h.
-    fits_filled n (served s c) store (at + length (next_frame s store c)) enable u (served_in_range s enable c range p)
-    (fits-served s enable c range p fits))
+    fits_filled n (served s c) store (at + length (next_frame s store c)) enable u (served_in_range store.given s enable c range p)
+    (fits-served store.given s enable c range p fits))
 
-pub fits-made : (s : Sender) (store block : List ℕ) (n u : ℕ) (y : System) → SenderFits s → SenderFits (sender_after_block s store block n u y)
+pub fits-made : (s : Sender) (store : Stores) (block : List ℕ) (n u : ℕ) (y : System) → SenderFits s → SenderFits (sender_after_block s store block n u y)
 unfolding sender_after_block block_filled fill_up ruled
 fits-made s store block n u y fits = go (eqb (block_refusal s store block n u y) 0) refl
   where

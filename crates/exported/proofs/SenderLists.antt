@@ -9,6 +9,7 @@ use lib.ListN.{length}
 use lib.Dec.{leb, eqb}
 use Rattle.bits.specs.Bits.{Bytes}
 use Rattle.bits.proofs.Tests.{and_right}
+use Rattle.packet.specs.Stores.{Stores}
 use Rattle.offering.specs.declared.Sender.{Sender}
 use Rattle.offering.specs.Record.{slot_at}
 use Rattle.sender.specs.Blocks.{System, buffer_after_block}
@@ -16,7 +17,7 @@ use Rattle.sender.specs.BlockCalls.{made_of, frames_placed, bits_used, zeros_add
 use Rattle.sender.specs.declared.Block.{Block}
 use Rattle.packet.specs.declared.Refusal.{Refusal}
 use Rattle.packet.specs.Answers.{answered}
-use Rattle.queues.specs.Calls.{Call, offer, block, End, fresh_end, accepted, after_call, after_calls, effect, queues_after_calls}
+use Rattle.queues.specs.Calls.{Call, offer, offer_long, block, End, fresh_end, accepted, after_call, after_calls, effect, queues_after_calls}
 use Rattle.queues.specs.Effects.{taken_by}
 use Rattle.queues.specs.AddedZeros.{answer_by_packets, answer_to}
 use Rattle.queues.specs.EnableBits.{enable_after, EnableInForce}
@@ -34,8 +35,8 @@ use Rattle.aes18.specs.Room.{no_room}
 use Rattle.aes18.specs.SenderCalls.{list_record, block_written, block_answer}
 use Rattle.exported.specs.Lent.{Lent, LentCall, call_answered, call_refusal, call_has_room, after_lent_call, after_lent_calls, calls_of}
 use Rattle.exported.proofs.NoRoom.{call_refusal-below, answered_255}
-use Rattle.aes18.proofs.SenderOutcomes.{list_short, offer_short, block_short}
-use Rattle.exported.proofs.SenderCarried.{Carried, list_carries, offer_carries, block_carries, offer_answers, block_answers, block-told}
+use Rattle.aes18.proofs.SenderOutcomes.{list_short, offer_short, offer_long_short, block_short}
+use Rattle.exported.proofs.SenderCarried.{Carried, list_carries, offer_carries, long_carries, block_carries, offer_answers, long_answers, block_answers, block-told}
 
 -- they are a sender's state, in as many bytes as were lent first
 pub record CarriedEnd (bytes : List ℕ) (e : Lent) (s : End) : Type 0 where
@@ -51,6 +52,7 @@ answered_0 false refusal = refl
 accepted-refusal : (s : End) (c : Call) → eqb (call_refusal s c) 0 ≡ accepted s c
 unfolding call_refusal accepted
 accepted-refusal s (offer c p r message) = refl
+accepted-refusal s (offer_long p r message) = refl
 accepted-refusal s (block n u buffer y) = refl
 
 -- a call that has no room leaves the state
@@ -81,6 +83,8 @@ module _ (bytes : List ℕ) (room : sender_length ≤ length bytes) where
     unfolding call_answered call_has_room call_refusal
     call_number (offer c p r message) =
         (offer_answers e.bytes still e.store c p r message).0 ∙ ap (λ (s : End). call_refusal s (offer c p r message)) same
+    call_number (offer_long p r message) =
+        (long_answers e.bytes still e.store p r message).0 ∙ ap (λ (s : End). call_refusal s (offer_long p r message)) same
     call_number (block n u buffer y) =
         (block_answers e.bytes still e.store n u y buffer answer).0
         ∙ ap (λ (s : End). cond (leb block_answer_length (length answer)) (call_refusal s (block n u buffer y)) no_room) same
@@ -124,6 +128,13 @@ module _ (bytes : List ℕ) (room : sender_length ≤ length bytes) where
           sender = record { sender = k.sender; each = k.each; long = k.long ∙ h.sender.long };
           store = (offer_answers e.bytes still e.store c p r message).1;
         })
+    call_carried (offer_long p r message) =
+        let k = long_carries e.bytes h.sender.each still e.store p r message in
+        subst (λ (s : End). CarriedEnd bytes (after_lent_call e (offer_long p r message) answer) (after_call s (offer_long p r message))) same
+        (record {
+          sender = record { sender = k.sender; each = k.each; long = k.long ∙ h.sender.long };
+          store = (long_answers e.bytes still e.store p r message).1;
+        })
     call_carried (block n u buffer y) =
         let k = block_carries e.bytes h.sender.each still e.store n u y buffer answer in
         subst
@@ -150,20 +161,20 @@ module _ (bytes : List ℕ) (room : sender_length ≤ length bytes) where
       (rest_carried cs (after_lent_call e c.call c.answer) (cond room (after_call s c.call) s) (call_carried e s h c.answer c.call))
 
   -- so do a listing and any calls after it
-  pub calls_carried : Bytes bytes → (list : List ℕ) → Bytes list → (store : List ℕ) (cs : List LentCall)
+  pub calls_carried : Bytes bytes → (list : List ℕ) → Bytes list → (store : Stores) (cs : List LentCall)
       → CarriedEnd bytes (after_lent_calls (record { bytes = list_record bytes list; store = store }) cs) (after_calls (fresh_end list store) (calls_of cs))
   calls_carried are list listed store cs =
       rest_carried cs _ (fresh_end list store) (record { sender = list_carries bytes are room list listed; store = refl })
 
   -- and byte 54 of the record is the enable bits in force
-  pub enable_byte : Bytes bytes → (list : List ℕ) → Bytes list → (store : List ℕ) (cs : List LentCall)
+  pub enable_byte : Bytes bytes → (list : List ℕ) → Bytes list → (store : Stores) (cs : List LentCall)
       → byte_at (after_lent_calls (record { bytes = list_record bytes list; store = store }) cs).bytes 54 ≡ enable_after list store (calls_of cs)
   unfolding EnableInForce sender_in
   enable_byte are list listed store cs =
       ap (λ (s : Sender). s.enable) (calls_carried are list listed store cs).sender.sender ∙ enable-in-force list store (calls_of cs)
 
   -- and the last two of the ten bytes of each circuit number are the packets of which copies wait
-  pub left_bytes : Bytes bytes → (list : List ℕ) → Bytes list → (store : List ℕ) (cs : List LentCall) (c : ℕ) → c < 4
+  pub left_bytes : Bytes bytes → (list : List ℕ) → Bytes list → (store : Stores) (cs : List LentCall) (c : ℕ) → c < 4
       → number_at 2 (after_lent_calls (record { bytes = list_record bytes list; store = store }) cs).bytes (13 + 10 * c + 8)
       ≡ length (each_once (queue_at (queues_after_calls list store (calls_of cs)) c).copies)
   unfolding LeftCounts
@@ -173,7 +184,7 @@ module _ (bytes : List ℕ) (room : sender_length ≤ length bytes) where
       ∙ left-counts list store (calls_of cs) c
 
   -- and the three numbers that an accepted block call behind them tells are those by the system packet and the packets that the block rule takes
-  pub answer_bytes : Bytes bytes → (list : List ℕ) → Bytes list → (store : List ℕ) (cs : List LentCall) (n u : ℕ) (y : System) (buffer answer : List ℕ) →
+  pub answer_bytes : Bytes bytes → (list : List ℕ) → Bytes list → (store : Stores) (cs : List LentCall) (n u : ℕ) (y : System) (buffer answer : List ℕ) →
       let e = after_lent_calls (record { bytes = list_record bytes list; store = store }) cs in
       let told = block_answer e.bytes e.store n u y buffer answer in
       call_answered e (block n u buffer y) answer ≡ 0
@@ -193,7 +204,7 @@ module _ (bytes : List ℕ) (room : sender_length ≤ length bytes) where
 -- ---- a record shorter than it has to be
 
 -- every call is answered by 255 and leaves all as it was
-module _ (bytes store : List ℕ) (short : length bytes < sender_length) where
+module _ (bytes : List ℕ) (store : Stores) (short : length bytes < sender_length) where
   lent : Lent
   lent = record { bytes = bytes; store = store }
 
@@ -201,6 +212,9 @@ module _ (bytes store : List ℕ) (short : length bytes < sender_length) where
   unfolding after_lent_call lent
   call_unchanged (offer c p r message) answer =
       let (number, same, kept) = offer_short bytes store c p r message short in
+      λ i. record { bytes = sym same i; store = sym kept i }
+  call_unchanged (offer_long p r message) answer =
+      let (number, same, kept) = offer_long_short bytes store p r message short in
       λ i. record { bytes = sym same i; store = sym kept i }
   call_unchanged (block n u buffer y) answer =
       let (number, same, written, told) = block_short bytes store n u y buffer answer short in

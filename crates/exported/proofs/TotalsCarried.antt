@@ -7,10 +7,11 @@ use borrow.Author.Tests.{leb-true, eqb-true}
 use lib.ListN.{length, replicate}
 use lib.Dec.{eqb}
 use Rattle.bits.specs.Bits.{Bytes}
+use Rattle.packet.specs.Stores.{Stores}
 use Rattle.packet.specs.Answers as packet_answers
 use Rattle.packet.specs.Lists.{AllAre}
 use Rattle.packet.proofs.Lists.{AllAre_parts}
-use Rattle.receiver.specs.Reading.{read_by, read_scan, read_refusal, store_after_read, bits_read, read_of, answer_to_read}
+use Rattle.receiver.specs.Reading.{read_by, read_scan, read_refusal, stores_after_read, bits_read, read_of, answer_to_read}
 use Rattle.receiver.specs.Reads.{ReadCall, ReceiverEnd, fresh_receiver_end, after_read, Report, report_of, told, told_by_reads}
 use Rattle.receiver.proofs.ToldInRange.{ReportInRange, told_in_range}
 use Rattle.notices.specs.declared.Notice.{Notice}
@@ -45,7 +46,7 @@ module _ (s : ReceiverEnd) (c : ReadCall) where
   notice_of_read = (read_by (read_scan s.receiver c.bytes c.from c.to) s.receiver s.store).notice
 
   told-accepted : number ≡ 0
-      → told s c ≡ record { notice = notice_of_read; store = store_after_read s.receiver s.store c.bytes c.from c.to } ∷ []
+      → told s c ≡ record { notice = notice_of_read; store = stores_after_read s.receiver s.store c.bytes c.from c.to } ∷ []
   unfolding number notice_of_read told answer_to_read read_of packet_answers.answered report_of
   told-accepted zero = rw zero
 
@@ -63,15 +64,15 @@ module _ (bytes : List ℕ) (room : receiver_length ≤ length bytes) (e : Lent)
   answered b has = call_number bytes room e s h c ∙ rw has
 
   -- an accepted call's notice is noted
-  accepted-noted : read_has_room c ≡ true → number s c.call ≡ 0 → AllAre ReportInRange (told s c.call)
+  accepted-noted : (given : Bool) → read_has_room c ≡ true → number s c.call ≡ 0 → AllAre (ReportInRange given) (told s c.call)
       → noted_read e c (totals_bytes t ++ rest) ≡ totals_bytes (noted t (notice_of_read s c.call)) ++ rest
   unfolding noted_read read_has_room notice_of_read AllAre
-  accepted-noted has zero range =
+  accepted-noted given has zero range =
       let accepted = answered true has ∙ zero in
       let long : read_answer_length ≤ length c.answer = leb-true read_answer_length (length c.answer) has in
-      let in-range = (subst (AllAre ReportInRange) (told-accepted s c.call zero) range).0.notice in
+      let report = subst (AllAre (ReportInRange given)) (told-accepted s c.call zero) range in
       rw (accepted, call_answer bytes room e s h c accepted)
-      (answer_noted t fits rest (notice_of_read s c.call) in-range
+      (answer_noted t fits rest _ (notice_of_read s c.call) report.0.notice
       (bits_read s.receiver s.store c.call.bytes c.call.from c.call.to) c.answer long)
 
   -- a refused one leaves the record
@@ -82,16 +83,16 @@ module _ (bytes : List ℕ) (room : receiver_length ≤ length bytes) (e : Lent)
   refused_left k refused is = rw (is, refused)
 
   -- a call that has room: what it tells is noted
-  call_noted : read_has_room c ≡ true → AllAre ReportInRange (told s c.call)
+  call_noted : (given : Bool) → read_has_room c ≡ true → AllAre (ReportInRange given) (told s c.call)
       → noted_read e c (totals_bytes t ++ rest) ≡ totals_bytes (noted_all t (notices_of (told s c.call))) ++ rest
   unfolding noted_all
-  call_noted has range = go (eqb (number s c.call) 0) refl
+  call_noted given has range = go (eqb (number s c.call) 0) refl
     where
       go : (z : Bool) → eqb (number s c.call) 0 ≡ z
           → noted_read e c (totals_bytes t ++ rest) ≡ totals_bytes (noted_all t (notices_of (told s c.call))) ++ rest
       go true zero =
           let accepted = eqb-true (number s c.call) 0 zero in
-          rw (told-accepted s c.call accepted) (accepted-noted has accepted range)
+          rw (told-accepted s c.call accepted) (accepted-noted given has accepted range)
       go false refused = rw (told_refused s c.call refused) (refused_left (number s c.call) refused (answered true has))
 
   -- one that has none leaves the record
@@ -112,12 +113,12 @@ noted_all_fit [] t fits = fits
 noted_all_fit (n ∷ ns) t fits = noted_all_fit ns (noted t n) (noted_fit t n fits)
 
 module _ (bytes : List ℕ) (room : receiver_length ≤ length bytes) (rest : List ℕ) where
-  reads_noted : (cs : List LentRead) (e : Lent) (s : ReceiverEnd) → CarriedEnd bytes e s → (t : Totals) → TotalsFit t
-      → AllAre ReportInRange (told_by_reads s (reads_of cs))
+  reads_noted : (given : Bool) (cs : List LentRead) (e : Lent) (s : ReceiverEnd) → CarriedEnd bytes e s → (t : Totals) → TotalsFit t
+      → AllAre (ReportInRange given) (told_by_reads s (reads_of cs))
       → noted_reads e cs (totals_bytes t ++ rest) ≡ totals_bytes (noted_all t (notices_of (told_by_reads s (reads_of cs)))) ++ rest
   unfolding noted_reads reads_of told_by_reads noted_all
-  reads_noted [] e s h t fits range = refl
-  reads_noted (c ∷ cs) e s h t fits range = go (read_has_room c) refl (λ s. reads_noted cs (after_lent_read e c) s) range
+  reads_noted given [] e s h t fits range = refl
+  reads_noted given (c ∷ cs) e s h t fits range = go (read_has_room c) refl (λ s. reads_noted given cs (after_lent_read e c) s) range
     where
       left : Lent
       left = after_lent_read e c
@@ -125,18 +126,18 @@ module _ (bytes : List ℕ) (room : receiver_length ≤ length bytes) (rest : Li
       -- what the calls behind this one note
       Behind : Type 0
       Behind =
-          (s : ReceiverEnd) → CarriedEnd bytes left s → (t : Totals) → TotalsFit t → AllAre ReportInRange (told_by_reads s (reads_of cs))
+          (s : ReceiverEnd) → CarriedEnd bytes left s → (t : Totals) → TotalsFit t → AllAre (ReportInRange given) (told_by_reads s (reads_of cs))
           → noted_reads left cs (totals_bytes t ++ rest) ≡ totals_bytes (noted_all t (notices_of (told_by_reads s (reads_of cs)))) ++ rest
 
-      go : (b : Bool) → read_has_room c ≡ b → Behind → AllAre ReportInRange (told_by_reads s (cond b (c.call ∷ reads_of cs) (reads_of cs)))
+      go : (b : Bool) → read_has_room c ≡ b → Behind → AllAre (ReportInRange given) (told_by_reads s (cond b (c.call ∷ reads_of cs) (reads_of cs)))
           → noted_reads left cs (noted_read e c (totals_bytes t ++ rest))
           ≡ totals_bytes (noted_all t (notices_of (told_by_reads s (cond b (c.call ∷ reads_of cs) (reads_of cs))))) ++ rest
       go true has later range =
           let first : List Report = told s c.call in
           let behind : List Report = told_by_reads (after_read s c.call) (reads_of cs) in
-          let parts = AllAre_parts ReportInRange first behind range in
+          let parts = AllAre_parts (ReportInRange given) first behind range in
           let carried = subst (λ b. CarriedEnd bytes left (cond b (after_read s c.call) s)) has (call_carried bytes room e s h c) in
-          ap (noted_reads left cs) (call_noted bytes room e s h c t fits rest has parts.0)
+          ap (noted_reads left cs) (call_noted bytes room e s h c t fits rest given has parts.0)
           ∙ later (after_read s c.call) carried (noted_all t (notices_of first)) (noted_all_fit (notices_of first) t fits) parts.1
           ∙ ap (λ t. totals_bytes t ++ rest)
           (sym (ap (noted_all t) (map-append (λ (t : Report). t.notice) first behind) ∙ noted_all_append (notices_of first) (notices_of behind) t))
@@ -145,10 +146,10 @@ module _ (bytes : List ℕ) (room : receiver_length ≤ length bytes) (rest : Li
           ap (noted_reads left cs) (call_unnoted bytes room e s h c t fits rest has) ∙ later s carried t fits range
 
   -- from a listing and a record of zeros on, with any bytes behind the record
-  pub totals_carried : Bytes bytes → (list : List ℕ) → Bytes list → (store : List ℕ) (cs : List LentRead)
+  pub totals_carried : Bytes bytes → (list : List ℕ) → Bytes list → (store : Stores) (cs : List LentRead)
       → noted_reads (record { bytes = list_record bytes list; store = store }) cs (replicate totals_length 0 ++ rest)
       ≡ totals_bytes (noted_all empty_totals (notices_of (told_by_reads (fresh_receiver_end list store) (reads_of cs)))) ++ rest
   totals_carried are list listed store cs =
       ap (λ zeros. noted_reads (record { bytes = list_record bytes list; store = store }) cs (zeros ++ rest)) (sym totals_empty)
-      ∙ reads_noted cs _ (fresh_receiver_end list store) (record { receiver = list_carries bytes are room list listed; store = refl }) empty_totals empty_fit
+      ∙ reads_noted store.given cs _ (fresh_receiver_end list store) (record { receiver = list_carries bytes are room list listed; store = refl }) empty_totals empty_fit
       (told_in_range list store (reads_of cs))

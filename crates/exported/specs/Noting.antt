@@ -1,5 +1,5 @@
 -- A record of pass totals in bytes, kept "beside the receiver" and "brought up to date with each notice" (document 02, ask 1): the answer of each exported
--- reading call is noted there where the call answers 0. `totals_carried` says that these bytes are then the record over all notices that document 01's
+-- reading call is noted there where the call answers 0. `totals_carried` says that these bytes are then the record over all notices that the documents'
 -- calls tell.
 use Rattle.std.specs.Prelude.{ℕ, cond, List, [], ◌∷◌, eqb}
 use Rattle.aes18.specs.ReceiverCalls.{read_answered, read_answer}

@@ -1,2 +1,2 @@
-// What lists of exported calls mean, as lists of document 01's calls: no code, only definitions and theorems.
+// What lists of exported calls mean, as lists of the documents' calls: no code, only definitions and theorems.
 #![tactic(auto)]

@@ -61,7 +61,7 @@ pub record Joints : Type 0 where
   -- "Last 6, now 0: loss 1; last 3, now 2: loss 6; last 3, now 3: Copy"
   pub last_6_now_0 : loss_of (last_was 6) (now_is 0) ≡ 1
   pub last_3_now_2 : loss_of (last_was 3) (now_is 2) ≡ 6
-  pub last_3_now_3 : fate_of (last_was 3) (now_is 3) ≡ Copy
+  pub last_3_now_3 : (taken : Bool) → fate_of taken (last_was 3) (now_is 3) ≡ Copy
   -- "Lengths 0, 15, 16, 4,094: 1, 1, 2, 256 packets"
   pub packets_0 : packets 0 ≡ 1
   pub packets_15 : packets 15 ≡ 1

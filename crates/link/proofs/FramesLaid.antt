@@ -12,7 +12,7 @@ use Rattle.hdlc.specs.Frames.{flag, frame}
 use Rattle.hdlc.proofs.Ending.{length-flag}
 use Rattle.packet.specs.declared.Circuit.{Circuit}
 use Rattle.packet.specs.Circuits.{list_refusal}
-use Rattle.packet.specs.Messages.{longest, packets, segment, link_of}
+use Rattle.packet.specs.Messages.{packets, segment, link_of}
 use Rattle.packet.specs.Packets.{system_packet}
 use Rattle.packet.specs.Lists.{AllAre}
 use Rattle.packet.proofs.PacketBytes.{length-packet_of, packet_of-Bytes}
@@ -98,14 +98,14 @@ right_system : (enable code : ℕ) (information : List ℕ) → enable ≤ 15 �
 unfolding system_packet Bytes
 right_system enable code information e c l h = ((omega arith, (omega arith, (omega arith, h))), omega arith, omega arith)
 
-pub right_copy_of : (k : Circuit) (priority : ℕ) (text : List ℕ) (number part : ℕ) → RightCircuit k → priority ≤ 3 → length text ≤ longest
+pub right_copy_of : (k : Circuit) (priority : ℕ) (text : List ℕ) (number part : ℕ) → RightCircuit k → priority ≤ 3
     → Bytes text → part < packets (length text) → Right (copy_of k priority text number part).packet
 unfolding copy_of
-right_copy_of k priority text number part r few short h inside =
+right_copy_of k priority text number part r few h inside =
     let (least, most) = length-segment text part inside in
     let l = length-packet_of k (link_of part (packets (length text))) (number % 8) priority (segment text part) least most in (
       packet_of-Bytes k (link_of part (packets (length text))) (number % 8) priority (segment text part) (omega arith) r.extended r.extension
-          (omega (arith, link_of_lt part (packets (length text)))) (omega arith) (omega arith) (segment-Bytes text part short h),
+          (omega (arith, link_of_lt part (packets (length text)))) (omega arith) (omega arith) (segment-Bytes text part h),
       omega arith,
       l.1,
     )
@@ -118,7 +118,7 @@ right_made (Some q) packet m =
     let c : Made q.circuit q.copy = m.2 in
     let is : packet ≡ (copy_of q.circuit q.copy.priority c.text q.copy.number c.part).packet =
     m.0 ∙ ap (λ (x : Copy). x.packet) c.is in
-    rw is (right_copy_of q.circuit q.copy.priority c.text q.copy.number c.part m.1 c.few c.short c.bytes c.inside)
+    rw is (right_copy_of q.circuit q.copy.priority c.text q.copy.number c.part m.1 c.few c.bytes c.inside)
 
 -- frames that stand in bits and have such packets
 laid : (fs : List Frame) (bits : List Bool) → AllMade fs → There bits fs → Laid bits fs

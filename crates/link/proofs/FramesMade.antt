@@ -12,7 +12,7 @@ use Rattle.bits.proofs.Tests.{or_left, or_right}
 use Rattle.hdlc.specs.Frames.{flag, frame}
 use Rattle.packet.specs.declared.Circuit.{Circuit}
 use Rattle.packet.specs.Circuits.{circuits_of, address_ff, wrong_extension, circuits_refusal, list_refusal, no_circuit}
-use Rattle.packet.specs.Messages.{longest, packets}
+use Rattle.packet.specs.Messages.{packets}
 use Rattle.packet.specs.Packets.{system_packet}
 use Rattle.packet.specs.Lists.{any_of, AllAre}
 use Rattle.packet.proofs.Choices.{cond_either}
@@ -21,7 +21,7 @@ use Rattle.packet.proofs.Lists.{AllAre_append, AllAre-replicate}
 use Rattle.sender.specs.Blocks.{system_packets, block_refusal}
 use Rattle.queues.specs.Queues.{Copy, Queue, Queues, fresh_queue, fresh_queues, queue_at, copy_of, copies_from, message_copies, message_for, offered, offer_queues, pick_queue, behind_first, behind, serve_queues, ruled_queues, Placed, Taken, taken_none, and_taken, take_up_to, copies_in_queues, take_frames}
 use Rattle.queues.specs.Effects.{Effect, no_effect, sends_message, takes_frames, taken_for, TakenBlock, bits_of_block, queues_after_effect, taken_by, blocks_taken}
-use Rattle.queues.specs.Calls.{Call, offer, block, End, accepted, after_call, effect, effects}
+use Rattle.queues.specs.Calls.{Call, offer, offer_long, block, End, accepted, after_call, effect, effects}
 use Rattle.sender.proofs.BlockRefusals.{accepted as block-accepted}
 use Rattle.queues.proofs.Queues.{taking_cases}
 use Rattle.queues.proofs.StandsCalls.{stands_fresh, effect_of_cases, RightEffect, AllRight, right_calls}
@@ -107,7 +107,7 @@ right_serve q d right c =
     (record { circuit = (right d).circuit; copies = MadeCopies_behind_first (queue_at q d).circuit (queue_at q d).copies (right d).copies }) (right c)
 
 -- and those to which an offer adds a message's copies
-module _ (priority : ℕ) (message : List ℕ) (few : priority ≤ 3) (short : length message ≤ longest) (bytes : Bytes message) where
+module _ (priority : ℕ) (message : List ℕ) (few : priority ≤ 3) (bytes : Bytes message) where
   made-copies_from : (n : ℕ) (k : Circuit) (times number i : ℕ) → i + n ≤ packets (length message)
       → MadeCopies k (copies_from k priority message times number i n)
   unfolding copies_from copy_of AllAre
@@ -115,7 +115,7 @@ module _ (priority : ℕ) (message : List ℕ) (few : priority ≤ 3) (short : l
   made-copies_from (suc n) k times number i h =
       AllAre_append (Made k) (replicate times (copy_of k priority message number i)) (copies_from k priority message times (suc number) (suc i) n)
       (AllAre-replicate (Made k) times (copy_of k priority message number i)
-      (record { text = message; part = i; is = refl; few = few; short = short; bytes = bytes; inside = omega arith }))
+      (record { text = message; part = i; is = refl; few = few; bytes = bytes; inside = omega arith }))
       (made-copies_from n k times (suc number) (suc i) (omega arith))
 
   right_offer : (q : Queues) (d repetition : ℕ) → RightQueues q → RightQueues (offer_queues q d priority repetition message)
@@ -174,7 +174,7 @@ made-effect : (x : Effect) (q : Queues) → RightEffect q x → EffectLent x →
 unfolding RightEffect EffectLent queues_after_effect taken_by taken_for AllAre MadeTaken RightQueues queue_at ruled_queues
 made-effect no_effect q right lent queues = (queues, tt)
 made-effect (sends_message c priority repetition message) q right lent queues =
-    (right_offer priority message right.1 right.2 lent q c repetition queues, tt)
+    (right_offer priority message right.1 lent q c repetition queues, tt)
 made-effect (takes_frames t) q right lent queues =
     let taken = made-take_frames (ruled_queues q t.new_enable) _ _ t.usable queues in
     (taken.0, (record { before = lent; frames = taken.1 }, tt))
@@ -192,6 +192,7 @@ made-effects (x ∷ xs) q right lent queues =
 lent_accepted : (call : Call) (e : End) → BytesIn call → accepted e call ≡ true → EffectLent (effect call)
 unfolding effect accepted BytesIn EffectLent AllAre system_packets
 lent_accepted (offer c priority repetition message) e bytes a = bytes
+lent_accepted (offer_long priority repetition message) e bytes a = bytes
 lent_accepted (block n u buffer y) e bytes a =
     let f = block-accepted e.sender e.store buffer n u y (eqb-true (block_refusal e.sender e.store buffer n u y) 0 a) in
     let made : y.wanted ≡ true → MadeSystem (system_packet y.enable y.code y.information) =

@@ -16,6 +16,7 @@ pub mod MessageParts
 pub mod Reassembly
 pub mod ClaimHolds
 pub mod Demand3Totals
+pub mod WithoutLong
 pub mod BodiesOfBlocks
 pub mod DroppedBlocks
 pub mod ReplacedByOnes

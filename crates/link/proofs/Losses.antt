@@ -10,6 +10,7 @@ use lib.Dec.{leb, ltb, eqb}
 use borrow.Author.Tests.{leb-true, eq-eqb, ne_eqb}
 use Rattle.bits.proofs.Tests.{and_left, and_right}
 use Rattle.packet.specs.Lists.{any_of}
+use Rattle.packet.specs.Messages.{longest}
 use Rattle.queues.specs.Sent.{Sent, Numbered}
 use Rattle.notices.specs.declared.Slot.{Slot}
 use Rattle.notices.specs.declared.Fate.{Fate}
@@ -33,20 +34,22 @@ data New : Fate → Type 0 where
   orphan : New Orphan
   wrong : New Wrong
 
-new_fate : (t : Slot) (p : List ℕ) → is_copy t p ≡ false → New (fate_of t p)
+new_fate : (taken : Bool) (t : Slot) (p : List ℕ) → is_copy t p ≡ false → New (fate_of taken t p)
 unfolding fate_of first_fate between_fate last_fate
-new_fate t p e =
+new_fate taken t p e =
     let s : List ℕ = segment_in p in
     let body : ℕ = length s - header_length s in
     rw e
     (cond_either New (eqb (link p) 2) _ _
-    (λ _. cond_either New (wrong_header s) _ _ (λ _. wrong)
+    (λ _. cond_either New (wrong_header taken s) _ _ (λ _. wrong)
     (λ _. cond_either New (eqb body (message_length s)) _ _ (λ _. whole)
     (λ _. cond_either New (eqb (length s) 16 && ltb body (message_length s)) _ _ (λ _. begun) (λ _. wrong))))
     (λ _. cond_either New (not (still_open t p)) _ _ (λ _. orphan)
     (λ _. cond_either New (eqb (link p) 0) _ _
     (λ _. cond_either New (eqb (length s) 16 && ltb (t.place + 16) t.length) _ _ (λ _. held) (λ _. wrong))
-    (λ _. cond_either New (eqb (t.place + length s) t.length) _ _ (λ _. whole) (λ _. wrong)))))
+    (λ _. cond_either New (ltb longest t.length) _ _
+    (λ _. cond_either New (ltb longest (t.place + length s) && leb (t.place + length s) t.length) _ _ (λ _. whole) (λ _. wrong))
+    (λ _. cond_either New (eqb (t.place + length s) t.length) _ _ (λ _. whole) (λ _. wrong))))))
 
 -- "After every case but Copy the circuit's last is this index"
 record Last (p : List ℕ) (t : Slot) : Type 0 where
@@ -68,20 +71,20 @@ is_copy_last : (t : Slot) (p : List ℕ) → Last p t → is_copy t p ≡ true
 unfolding is_copy
 is_copy_last t p h = rw (h.seen, eq-eqb (index p) t.last (sym h.last))
 
-losses_heard_copies : (k : ℕ) (t : Slot) (p : List ℕ) (rest : List (List ℕ)) → Last p t
-    → losses_heard t (replicate k p ++ rest) ≡ losses_heard t rest
+losses_heard_copies : (taken : Bool) (k : ℕ) (t : Slot) (p : List ℕ) (rest : List (List ℕ)) → Last p t
+    → losses_heard taken t (replicate k p ++ rest) ≡ losses_heard taken t rest
 unfolding losses_heard fate_of slot_after
-losses_heard_copies zero t p rest h = refl
-losses_heard_copies (suc k) t p rest h = rw (is_copy_last t p h, zero-add) (losses_heard_copies k t p rest h)
+losses_heard_copies taken zero t p rest h = refl
+losses_heard_copies taken (suc k) t p rest h = rw (is_copy_last t p h, zero-add) (losses_heard_copies taken k t p rest h)
 
 -- a packet that is no copy, and copies of it
-losses_heard_packet : (k : ℕ) (t : Slot) (p : List ℕ) (rest : List (List ℕ)) (n : ℕ) → is_copy t p ≡ false
-    → ((u : Slot) → Last p u → losses_heard u rest ≡ n) → losses_heard t (replicate (suc k) p ++ rest) ≡ loss_of t p + n
+losses_heard_packet : (taken : Bool) (k : ℕ) (t : Slot) (p : List ℕ) (rest : List (List ℕ)) (n : ℕ) → is_copy t p ≡ false
+    → ((u : Slot) → Last p u → losses_heard taken u rest ≡ n) → losses_heard taken t (replicate (suc k) p ++ rest) ≡ loss_of t p + n
 unfolding losses_heard
-losses_heard_packet k t p rest n e later =
-    let u : Slot = slot_after (fate_of t p) t p in
-    let h : Last p u = last_new (fate_of t p) t p (new_fate t p e) in
-    rw e (ap (◌+◌ (loss_of t p)) (losses_heard_copies k u p rest h ∙ later u h))
+losses_heard_packet taken k t p rest n e later =
+    let u : Slot = slot_after (fate_of taken t p) t p in
+    let h : Last p u = last_new (fate_of taken t p) t p (new_fate taken t p e) in
+    rw e (ap (◌+◌ (loss_of t p)) (losses_heard_copies taken k u p rest h ∙ later u h))
 
 -- a packet of number n, where one of number a came and d were lost since
 module _ (t : Slot) (p : List ℕ) (n a d : ℕ) (seen : t.seen ≡ true) (last : t.last ≡ a % 8) (here : index p ≡ n % 8) (next : n ≡ a + 1 + d)
@@ -116,22 +119,22 @@ lost_behind_suc bs d = go (any_of (λ b. b) bs)
     go true = omega arith
     go false = refl
 
-module _ (comes : ℕ → Bool) where
+module _ (taken : Bool) (comes : ℕ → Bool) where
   -- where one of number a came and d were lost since, the rest adds up
   AddsUp : ℕ → ℕ → List Sent → Type 0
   AddsUp a d ps =
       (t : Slot) (heard : List (List ℕ)) → t.seen ≡ true → t.last ≡ a % 8 → Thinned comes ps heard → gaps true d (came_of comes ps) ≡ true →
-      losses_heard t heard ≡ lost_behind d (came_of comes ps)
+      losses_heard taken t heard ≡ lost_behind d (came_of comes ps)
 
   -- a packet that comes, and what follows
   losses_came : (t : Slot) (p : List ℕ) (n : ℕ) (ps : List Sent) (heard : List (List ℕ)) → is_copy t p ≡ false → index p ≡ n % 8
       → ThinnedBy true p (Thinned comes ps) heard → gaps true 0 (came_of comes ps) ≡ true → AddsUp n 0 ps
-      → losses_heard t heard ≡ loss_of t p + lost (up_to_last (came_of comes ps))
+      → losses_heard taken t heard ≡ loss_of t p + lost (up_to_last (came_of comes ps))
   unfolding ThinnedBy AddsUp
   losses_came t p n ps heard new here thinned few later =
       let (copies, rest, is, thin) = thinned in
       rw is
-      (losses_heard_packet copies t p rest (lost (up_to_last (came_of comes ps))) new
+      (losses_heard_packet taken copies t p rest (lost (up_to_last (came_of comes ps))) new
       (λ u h. later u rest h.seen (h.last ∙ here) thin few ∙ lost_behind_zero (came_of comes ps)))
 
   -- one came
@@ -143,7 +146,7 @@ module _ (comes : ℕ → Bool) where
       (losses_seen ps (suc n) a (suc d) (omega arith) numbers.2)
     where
       go : (b : Bool) → ThinnedBy b p.original.packet (Thinned comes ps) heard → gaps true d (b ∷ came_of comes ps) ≡ true
-          → AddsUp n 0 ps → AddsUp a (suc d) ps → losses_heard t heard ≡ lost_behind d (b ∷ came_of comes ps)
+          → AddsUp n 0 ps → AddsUp a (suc d) ps → losses_heard taken t heard ≡ lost_behind d (b ∷ came_of comes ps)
       go true thin few came gone =
           let six : d ≤ 6 = leb-true d 6 (and_left (leb d 6) (gaps true 0 (came_of comes ps)) few) in
           let here : index p.original.packet ≡ n % 8 = numbers.1 in
@@ -154,15 +157,16 @@ module _ (comes : ℕ → Bool) where
 
   -- none came yet
   losses_unseen : (ps : List Sent) (n d : ℕ) (heard : List (List ℕ)) → Numbered n ps → Thinned comes ps heard → gaps false d (came_of comes ps) ≡ true
-      → losses_heard fresh_slot heard ≡ lost (up_to_last (from_first (came_of comes ps)))
+      → losses_heard taken fresh_slot heard ≡ lost (up_to_last (from_first (came_of comes ps)))
   unfolding Numbered Thinned ThinnedBy came_of gaps from_first up_to_last lost losses_heard fresh_slot is_copy loss_of
   losses_unseen [] n d heard numbers thinned few = rw thinned
   losses_unseen (p ∷ ps) n d heard numbers thinned few =
       go (comes p.original.number) thinned few (losses_unseen ps (suc n) (suc d) heard numbers.2)
     where
       go : (b : Bool) → ThinnedBy b p.original.packet (Thinned comes ps) heard → gaps false d (b ∷ came_of comes ps) ≡ true
-          → (Thinned comes ps heard → gaps false (suc d) (came_of comes ps) ≡ true → losses_heard fresh_slot heard ≡ lost (up_to_last (from_first (came_of comes ps))))
-          → losses_heard fresh_slot heard ≡ lost (up_to_last (from_first (b ∷ came_of comes ps)))
+          → (Thinned comes ps heard → gaps false (suc d) (came_of comes ps) ≡ true
+          → losses_heard taken fresh_slot heard ≡ lost (up_to_last (from_first (came_of comes ps))))
+          → losses_heard taken fresh_slot heard ≡ lost (up_to_last (from_first (b ∷ came_of comes ps)))
       go true thin few gone =
           losses_came fresh_slot p.original.packet n ps heard refl numbers.1 thin few
           (losses_seen ps (suc n) n 0 (omega arith) numbers.2)
@@ -170,11 +174,11 @@ module _ (comes : ℕ → Bool) where
       go false thin few gone = gone thin few
 
 -- the losses that a circuit's packets tell are those between the first that came and the last
-pub losses_thinned : (comes : ℕ → Bool) (ps : List Sent) (heard : List (List ℕ)) → Numbered 0 ps → Thinned comes ps heard
+pub losses_thinned : (taken : Bool) (comes : ℕ → Bool) (ps : List Sent) (heard : List (List ℕ)) → Numbered 0 ps → Thinned comes ps heard
     → at_most_six_lost (came_of comes ps) ≡ true
-    → losses_heard fresh_slot heard ≡ lost (from_first_to_last (came_of comes ps))
+    → losses_heard taken fresh_slot heard ≡ lost (from_first_to_last (came_of comes ps))
 unfolding from_first_to_last
-losses_thinned comes ps heard numbers thinned few = losses_unseen comes ps 0 0 heard numbers thinned (gaps_given (came_of comes ps) few)
+losses_thinned taken comes ps heard numbers thinned few = losses_unseen taken comes ps 0 0 heard numbers thinned (gaps_given (came_of comes ps) few)
 
 -- ---- packets that were never placed
 

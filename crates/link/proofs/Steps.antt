@@ -10,9 +10,10 @@ use Rattle.hdlc.specs.Frames.{flag, frame}
 use Rattle.hdlc.specs.Bodies.{Judged, passes, spoilt, nothing}
 use Rattle.packet.specs.declared.Circuit.{Circuit}
 use Rattle.packet.specs.Circuits.{alike}
-use Rattle.packet.specs.Messages.{longest, packets}
+use Rattle.packet.specs.Messages.{longest, longest_long, packets}
 use Rattle.packet.specs.Packets.{system_packet}
 use Rattle.packet.specs.Lists.{AllAre}
+use Rattle.packet.specs.Stores.{Stores}
 use Rattle.framing.specs.Closings.{Closing}
 use Rattle.queues.specs.Queues.{Copy, copy_of, Placed}
 use Rattle.queues.specs.Sent.{Sent}
@@ -20,7 +21,7 @@ use Rattle.notices.specs.declared.Slot.{Slot}
 use Rattle.receiver.specs.declared.Receiver.{Receiver}
 use Rattle.receiver.specs.Reading.{Noticed, passed}
 use Rattle.notices.specs.Fates.{is_copy, loss_of, fate_of, slot_after}
-use Rattle.notices.specs.Stores.{store_after_fate}
+use Rattle.notices.specs.Stores.{stores_after_fate}
 use Rattle.receiver.specs.Reads.{Report}
 use Rattle.link.specs.Demand3.{Frame, frame_length, InBlock, handed_from}
 
@@ -37,10 +38,10 @@ given [] = []
 given (c ∷ cs) = packet_given c.gives ++ given cs
 
 -- what packets tell, one after another
-unfoldable pub told_by_packets : Receiver → List ℕ → List (List ℕ) → List Report
-told_by_packets r store [] = []
-told_by_packets r store (p ∷ ps) =
-    let h : Noticed = passed r store p in
+unfoldable pub told_by_packets : Receiver → Stores → List (List ℕ) → List Report
+told_by_packets r l [] = []
+told_by_packets r l (p ∷ ps) =
+    let h : Noticed = passed r l p in
     record { notice = h.notice; store = h.store } ∷ told_by_packets h.receiver h.store ps
 
 -- ---- frames in the joined bits
@@ -79,7 +80,6 @@ pub record Made (k : Circuit) (c : Copy) : Type 0 where
   pub part : ℕ
   pub is : c ≡ copy_of k c.priority text c.number part
   pub few : c.priority ≤ 3
-  pub short : length text ≤ longest
   pub bytes : Bytes text
   pub inside : part < packets (length text)
 
@@ -112,16 +112,20 @@ unfoldable pub packets_at : Circuit → List Frame → List (List ℕ)
 packets_at k [] = []
 packets_at k (f ∷ fs) = cond (is_of k f.whose) (f.packet ∷ []) [] ++ packets_at k fs
 
--- what packets of one circuit tell: its slot and its region are all that counts
-unfoldable pub losses_heard : Slot → List (List ℕ) → ℕ
-losses_heard t [] = 0
-losses_heard t (p ∷ ps) = cond (is_copy t p) 0 (loss_of t p) + losses_heard (slot_after (fate_of t p) t p) ps
+-- the most bytes that a message may have where long ones are taken or not
+unfoldable pub most_if : Bool → ℕ
+most_if taken = cond taken longest_long longest
 
-unfoldable pub handed_heard : Slot → List ℕ → List (List ℕ) → List (List ℕ)
-handed_heard t area [] = []
-handed_heard t area (p ∷ ps) =
-    let after = store_after_fate (fate_of t p) 0 t p area in
-    handed_from (fate_of t p) 0 after ++ handed_heard (slot_after (fate_of t p) t p) after ps
+-- what packets of one circuit tell, at which long messages are taken or not: its slot, its region and, if they are taken, the long buffer are all that counts
+unfoldable pub losses_heard : Bool → Slot → List (List ℕ) → ℕ
+losses_heard taken t [] = 0
+losses_heard taken t (p ∷ ps) = cond (is_copy t p) 0 (loss_of t p) + losses_heard taken (slot_after (fate_of taken t p) t p) ps
+
+unfoldable pub handed_heard : Bool → Slot → Stores → List (List ℕ) → List (List ℕ)
+handed_heard taken t l [] = []
+handed_heard taken t l (p ∷ ps) =
+    let after = stores_after_fate (fate_of taken t p) 0 t p l in
+    handed_from (fate_of taken t p) 0 after ++ handed_heard taken (slot_after (fate_of taken t p) t p) after ps
 
 -- ---- what came of one circuit
 

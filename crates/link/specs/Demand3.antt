@@ -1,8 +1,8 @@
--- Demand 3, one claim about whole lists of calls (document 01, "What demand 3 counts"), from top to bottom: what was sent, what became of the bits, what
--- came, what the receiver told, what is taken as given, and the claim. The calls are those of the contracts: `Rattle.queues.specs.Calls` and
+-- Demand 3, one claim about whole lists of calls (document 01, "What demand 3 counts"; document 02, ask 7), from top to bottom: what was sent, what became of
+-- the bits, what came, what the receiver told, what is taken as given, and the claim. The calls are those of the contracts: `Rattle.queues.specs.Calls` and
 -- `Rattle.receiver.specs.Reads` have the lists of them, the records and stores between them, and the blocks and notices that they give;
 -- `Rattle.queues.specs.Effects` has what they send and place, `Rattle.queues.specs.Sent` what of it is at a circuit, each packet counted once.
-use Rattle.std.specs.Prelude.{ℕ, zero, suc, ◌+◌, ◌-◌, ◌*◌, ◌<◌, Bool, true, false, cond, not, ◌&&◌, ◌||◌, ◌≡◌, length, take, drop, get_or, replicate, eqb}
+use Rattle.std.specs.Prelude.{ℕ, zero, suc, ◌+◌, ◌-◌, ◌*◌, ◌<◌, Bool, true, false, cond, not, ◌&&◌, ◌||◌, ◌≡◌, length, take, drop, get_or, replicate, ltb, eqb}
 use mathlib.Core.List.{List, [], ◌∷◌, ◌++◌, map, flatten}
 use Rattle.std.specs.Prelude.{Option, None, Some}
 use Rattle.bits.specs.Bits.{Bytes}
@@ -10,17 +10,17 @@ use Rattle.hdlc.specs.Frames.{flag, frame}
 use Rattle.hdlc.specs.Bodies.{holds, Body, bodies, Judged, passes, spoilt, nothing, judge}
 use Rattle.packet.specs.declared.Circuit.{Circuit}
 use Rattle.packet.specs.Circuits.{circuits_of, alike, list_refusal, no_circuit}
-use Rattle.packet.specs.Messages.{packets}
+use Rattle.packet.specs.Messages.{longest, packets}
 use Rattle.packet.specs.Lists.{any_of, all_of, those, AllAre}
 use Rattle.queues.specs.Queues.{Message, Queues, fresh_queues, Placed}
 use Rattle.queues.specs.Effects.{Effect, TakenBlock, bits_of_block, messages_sent, blocks_taken}
-use Rattle.queues.specs.Calls.{Call, offer, block, End, fresh_end, effects, blocks_made}
+use Rattle.queues.specs.Calls.{Call, offer, offer_long, block, End, fresh_end, effects, blocks_made}
 use Rattle.queues.specs.Sent.{messages_at, placed_at, each_once, frames_of}
 use Rattle.notices.specs.declared.Fate.{Fate}
 use Rattle.notices.specs.declared.Fate.TheVariants.{Copy as CopyFate, Begun, Held, Whole, Orphan, Wrong}
 use Rattle.notices.specs.declared.Notice.{Notice}
 use Rattle.notices.specs.declared.Notice.TheVariants.{End as EndNotice, Spoilt, Malformed, System as SystemNotice, Elsewhere, Circuit as CircuitNotice}
-use Rattle.packet.specs.Stores.{region}
+use Rattle.packet.specs.Stores.{region, Stores, takes_long}
 use Rattle.receiver.specs.Reads.{ReadCall, ReceiverEnd, fresh_receiver_end, bits_of_reads, Report, told_by_reads}
 
 -- ---- what is free
@@ -31,14 +31,15 @@ pub data Piece : Type 0 where
   replaced : List Bool → List Bool → Piece
 
 -- all that is given freely: at the sender a circuit list, the store's first bytes and "offering and block calls .. of any length and order, accepted or
--- refused"; the pieces; at the receiver a circuit list, the store's first bytes and reading calls
+-- refused"; the pieces; at the receiver a circuit list, the store's first bytes and reading calls. Beside its store "an end has this buffer, the same one,
+-- in all its calls or in none" (document 02, ask 7), with any first bytes
 pub record Pass : Type 0 where
   pub sender_list : List ℕ
-  pub sender_store : List ℕ
+  pub sender_store : Stores
   pub calls : List Call
   pub pieces : List Piece
   pub receiver_list : List ℕ
-  pub receiver_store : List ℕ
+  pub receiver_store : Stores
   pub reads : List ReadCall
 
 -- ---- what was sent: "The calls alone tell what was sent"
@@ -218,22 +219,23 @@ unfoldable pub losses_at : ℕ → List Report → ℕ
 losses_at n [] = 0
 losses_at n (t ∷ ts) = loss_at n t.notice + losses_at n ts
 
--- "for each Whole among them in order, the start of the region, as long as that notice says, when its reading call returned"
-unfoldable pub handed_from : Fate → ℕ → List ℕ → List (List ℕ)
-handed_from (Whole len) n store = take len (drop (region * n) store) ∷ []
-handed_from CopyFate n store = []
-handed_from Begun n store = []
-handed_from Held n store = []
-handed_from Orphan n store = []
-handed_from Wrong n store = []
+-- "for each Whole among them in order, the start of the region, as long as that notice says, when its reading call returned"; of a long message the start of
+-- the buffer: "Its bytes go to that buffer from the start, and at Whole it is handed over there" (document 02, ask 7)
+unfoldable pub handed_from : Fate → ℕ → Stores → List (List ℕ)
+handed_from (Whole len) n l = cond (ltb longest len) (take len l.long) (take len (drop (region * n) l.store)) ∷ []
+handed_from CopyFate n l = []
+handed_from Begun n l = []
+handed_from Held n l = []
+handed_from Orphan n l = []
+handed_from Wrong n l = []
 
-unfoldable pub handed_at : ℕ → Notice → List ℕ → List (List ℕ)
-handed_at n (CircuitNotice c loss fate) store = cond (eqb c n) (handed_from fate n store) []
-handed_at n EndNotice store = []
-handed_at n Spoilt store = []
-handed_at n Malformed store = []
-handed_at n (SystemNotice enable code len) store = []
-handed_at n Elsewhere store = []
+unfoldable pub handed_at : ℕ → Notice → Stores → List (List ℕ)
+handed_at n (CircuitNotice c loss fate) l = cond (eqb c n) (handed_from fate n l) []
+handed_at n EndNotice l = []
+handed_at n Spoilt l = []
+handed_at n Malformed l = []
+handed_at n (SystemNotice enable code len) l = []
+handed_at n Elsewhere l = []
 
 unfoldable pub handed_over : ℕ → List Report → List (List ℕ)
 handed_over n [] = []
@@ -247,6 +249,7 @@ notices p = told_by_reads (receiver p) p.reads
 -- what a call is lent is bytes: numbers below 256
 unfoldable pub BytesIn : Call → Type 0
 BytesIn (offer c priority repetition text) = Bytes text
+BytesIn (offer_long priority repetition text) = Bytes text
 BytesIn (block n u buffer y) = Bytes y.information
 
 pub record Given (p : Pass) : Type 0 where
@@ -288,11 +291,21 @@ at_most_six_lost bs = not (holds (replicate 7 false) (from_first_to_last bs))
 unfoldable pub circuit_at : Pass → ℕ → Circuit
 circuit_at p n = get_or (circuits_of p.receiver_list) n no_circuit
 
+-- a long message, "of 4,095 to 65,535 bytes", was sent at a circuit
+unfoldable pub sent_long : Pass → Circuit → Bool
+sent_long p k = any_of (λ (m : Message). ltb longest (length m.text)) (messages p k)
+
+-- the receiver takes every message sent at its circuit number n: "if the receiver has the buffer and lists that address as its own circuit 0. An address sent
+-- no long message needs neither." (document 02, ask 7)
+unfoldable pub takes_all_sent : Pass → ℕ → Bool
+takes_all_sent p n = not (sent_long p (circuit_at p n)) || takes_long p.receiver_store.given n
+
+-- "What is promised of lost packets and whole messages now includes these, whoever mixes long and short on one circuit" (document 02, ask 7)
 pub record Claim (p : Pass) (n : ℕ) : Type 0 where
   -- "the sum of the losses reported equals the number of packets lost there after the first to come and before the last"
   pub losses : losses_at n (notices p) ≡ lost (from_first_to_last (came p (circuit_at p n)))
   -- "The messages handed over there are exactly those sent there of which every packet came in some copy, each once, in sending order"
-  pub handed : handed_over n (notices p) ≡ messages_that_came p (circuit_at p n)
+  pub handed : takes_all_sent p n ≡ true → handed_over n (notices p) ≡ messages_that_came p (circuit_at p n)
 
 -- "at each address which that receiver lists"
 unfoldable pub Demand3 : Type 0

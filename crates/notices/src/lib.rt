@@ -57,16 +57,21 @@ pub struct Hearing {
     pub first: bool,
 }
 
-// A listed circuit's packet is heard, where its slot is among these.
-#[tactic(auto, using(parsing::proofs::Links::same_first), unfolding(crate::specs::Heard::heard_at))]
-fn hear_circuit(slots: [Slot; 4], at: CircuitSlot, passed: &PassedSegmented<'_>) -> Hearing
+// A listed circuit's packet is heard, where its slot is among these, and a long buffer is given or not.
+#[tactic(auto, using(parsing::proofs::Links::same_first, crate::proofs::FateLaws::held_within), unfolding(crate::specs::Heard::heard_at))]
+fn hear_circuit(
+    given: bool,
+    slots: [Slot; 4],
+    at: CircuitSlot,
+    passed: &PassedSegmented<'_>,
+) -> Hearing
     requires { at.slot ≡ slot_at slots at.circuit }
-    ensures { result ≡ heard_at at.circuit slots passed.now }
+    ensures { result ≡ heard_at given at.circuit slots passed.now }
 {
     let slot = at.slot;
     let segmented = passed.packet();
     let packet = segmented.packet();
-    let fate = slot.fate_of(segmented);
+    let fate = slot.fate_of(packet::takes_long(given, at.circuit), segmented);
     let mut after = slots;
     after[at.circuit] = slot.slot_after(fate, passed);
     Hearing {
@@ -91,11 +96,11 @@ pub fn system_notice(packet: &Segmented<'_>) -> Notice
     }
 }
 
-// A packet that passed is heard by the circuits with these slots.
+// A packet that passed is heard by the circuits with these slots, where a long buffer is given or not.
 #[tactic(auto, unfolding(crate::specs::Heard::heard, crate::specs::Heard::heard_by, crate::specs::Heard::system_heard))]
-pub fn hear(circuits: Circuits, slots: [Slot; 4], passed: &Passed<'_>) -> Hearing
-    requires { (circuits.count ≤ 4) × (slots_in_range (take circuits.count slots) ≡ true) }
-    ensures { result ≡ heard circuits slots passed.now }
+pub fn hear(given: bool, circuits: Circuits, slots: [Slot; 4], passed: &Passed<'_>) -> Hearing
+    requires { (circuits.count ≤ 4) × (slots_in_range given 0 (take circuits.count slots) ≡ true) }
+    ensures { result ≡ heard given circuits slots passed.now }
 {
     let Some(packet) = passed.well_formed() else {
         return Hearing {
@@ -118,5 +123,10 @@ pub fn hear(circuits: Circuits, slots: [Slot; 4], passed: &Passed<'_>) -> Hearin
             first: false,
         };
     };
-    hear_circuit(slots, CircuitSlot::new(number, slots[number]), &packet)
+    hear_circuit(
+        given,
+        slots,
+        CircuitSlot::new(number, slots[number]),
+        &packet,
+    )
 }

@@ -27,10 +27,10 @@ left_offered = (refl, refl, refl, refl, refl, refl)
 partly : ℕ → Slot
 partly left = record { index = 1; priority = 2; repetition = 1; copy = 1; length = 40; place = 1; left = left }
 
-left_judged : (slot_in_range (partly 1) ≡ false)
-    × (slot_in_range (partly 2) ≡ true)
-    × (slot_in_range (partly 3) ≡ false)
-    × (slot_in_range fresh_slot ≡ true)
-    × (slot_in_range no_slot ≡ false)
+left_judged : (slot_in_range longest (partly 1) ≡ false)
+    × (slot_in_range longest (partly 2) ≡ true)
+    × (slot_in_range longest (partly 3) ≡ false)
+    × (slot_in_range longest fresh_slot ≡ true)
+    × (slot_in_range longest no_slot ≡ false)
 unfolding partly slot_in_range fresh_slot no_slot longest packets header
 left_judged = (refl, refl, refl, refl, refl)

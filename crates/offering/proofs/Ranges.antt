@@ -1,42 +1,38 @@
 -- What a record in range has, slot by slot, and what makes one in range.
-use mathlib.Core.Path.{◌≡◌, refl, sym, ap}
-use Prim.Native.Nat.{ℕ, zero, suc, ◌-◌, ◌≤◌, ◌<◌}
+use mathlib.Core.Path.{◌≡◌, refl, sym, ◌∙◌}
+use Prim.Native.Nat.{ℕ, zero, suc, ◌+◌, ◌-◌, ◌≤◌, ◌<◌}
+use native.Mathlib.Numerals.{add-one}
 use native.Mathlib.Omega.{arith}
 use mathlib.Core.Bool.{Bool, true, false, not, ◌&&◌, and-eq-true_iff, true≢false}
 use mathlib.Core.List.{List, [], ◌∷◌}
-use lib.ListN.{length, take, get_or, set}
+use lib.ListN.{length, drop, get_or, set}
 use lib.Dec.{ltb, eqb}
+use lib.Seq.{drop-cons}
 use borrow.Author.Tests.{leb-true, eqb-true, le-leb, eq-eqb, ne_eqb, ltb-true, ltb-false}
-use Rattle.std.specs.List.{list_all}
 use Rattle.bits.proofs.Tests.{and_both}
 use Rattle.packet.specs.Circuits.{circuits_refusal, listed}
-use Rattle.packet.specs.Messages.{longest, packets}
+use Rattle.packet.specs.Messages.{longest_long, packets}
+use Rattle.packet.specs.Stores.{longest_at}
+use Rattle.packet.proofs.LongBuffers.{longest_at_bounds, longest_at-given}
 use Rattle.offering.specs.declared.Slot.{Slot}
 use Rattle.offering.specs.declared.Sender.{Sender}
 use Rattle.offering.specs.Record.{no_slot, slot_at, pending, slot_in_range, slots_in_range, in_range, PendingIffLeft}
-
--- slots that are there
-pub slots_in_range_there : (n : ℕ) (ts : List Slot) → n ≤ length ts → slots_in_range n ts ≡ list_all slot_in_range (take n ts)
-unfolding slots_in_range
-slots_in_range_there zero ts h = refl
-slots_in_range_there (suc n) [] h = absurd (omega arith)
-slots_in_range_there (suc n) (t ∷ ts) h = ap (λ b. slot_in_range t && b) (slots_in_range_there n ts (omega arith))
 
 -- both tests of a conjunction
 pub and_elim : (a b : Bool) → (a && b) ≡ true → (a ≡ true) × (b ≡ true)
 and_elim a b e = (and-eq-true_iff a b).0 e
 
 -- what a slot in range is
-pub record SlotFacts (t : Slot) : Type 0 where
+pub record SlotFacts (most : ℕ) (t : Slot) : Type 0 where
   pub index : t.index ≤ 7
   pub priority : t.priority ≤ 3
   pub repetition : t.repetition ≤ 5
-  pub short : t.length ≤ longest
+  pub short : t.length ≤ most
   pub place : t.place ≤ packets t.length
   pub copy : t.copy ≤ t.repetition
   pub left : t.left ≡ packets t.length - t.place
 
-pub slot_in_range_facts : (t : Slot) → slot_in_range t ≡ true → SlotFacts t
+pub slot_in_range_facts : {most : ℕ} (t : Slot) → slot_in_range most t ≡ true → SlotFacts most t
 unfolding slot_in_range
 slot_in_range_facts t e =
     let (e₆, left) = and_elim _ _ e in
@@ -55,7 +51,7 @@ slot_in_range_facts t e =
       left = eqb-true _ _ left;
     }
 
-pub facts_slot_in_range : (t : Slot) → SlotFacts t → slot_in_range t ≡ true
+pub facts_slot_in_range : {most : ℕ} (t : Slot) → SlotFacts most t → slot_in_range most t ≡ true
 unfolding slot_in_range
 facts_slot_in_range t f =
     and_both _ _
@@ -70,12 +66,27 @@ facts_slot_in_range t f =
     (le-leb _ _ f.copy))
     (eq-eqb _ _ f.left)
 
+-- a slot in range is so where a message may be longer
+pub slot_in_range_wider : {less more : ℕ} (t : Slot) → less ≤ more → slot_in_range less t ≡ true → slot_in_range more t ≡ true
+slot_in_range_wider t h e =
+    let f = slot_in_range_facts t e in
+    facts_slot_in_range t
+    (record {
+      index = f.index;
+      priority = f.priority;
+      repetition = f.repetition;
+      short = omega (arith, f.short);
+      place = f.place;
+      copy = f.copy;
+      left = f.left;
+    })
+
 -- a message is pending where packets are left, and only there
 pub pending-iff-left : PendingIffLeft
 unfolding PendingIffLeft pending
-pending-iff-left t e = go (ltb t.place (packets t.length)) refl
+pending-iff-left most t e = go (ltb t.place (packets t.length)) refl
   where
-    f : SlotFacts t
+    f : SlotFacts most t
     f = slot_in_range_facts t e
 
     go : (b : Bool) → ltb t.place (packets t.length) ≡ b → b ≡ not (eqb t.left 0)
@@ -87,14 +98,14 @@ pending-iff-left t e = go (ltb t.place (packets t.length)) refl
         rw (eq-eqb t.left 0 none)
 
 -- what a record in range is
-pub record SenderFacts (s : Sender) : Type 0 where
+pub record SenderFacts (given : Bool) (s : Sender) : Type 0 where
   pub count : s.circuits.count ≤ 4
   pub circuits : circuits_refusal (listed s.circuits) ≡ 0
   pub last : s.last ≤ 3
   pub enable : s.enable ≤ 15
-  pub slots : slots_in_range s.circuits.count s.slots ≡ true
+  pub slots : slots_in_range given 0 s.circuits.count s.slots ≡ true
 
-pub in_range_facts : (s : Sender) → in_range s ≡ true → SenderFacts s
+pub in_range_facts : {given : Bool} (s : Sender) → in_range given s ≡ true → SenderFacts given s
 unfolding in_range
 in_range_facts s e =
     let (e₄, slots) = and_elim _ _ e in
@@ -109,7 +120,7 @@ in_range_facts s e =
       slots = slots;
     }
 
-pub facts_in_range : (s : Sender) → SenderFacts s → in_range s ≡ true
+pub facts_in_range : {given : Bool} (s : Sender) → SenderFacts given s → in_range given s ≡ true
 unfolding in_range
 facts_in_range s f =
     and_both _ _
@@ -118,24 +129,90 @@ facts_in_range s f =
     (le-leb _ _ f.enable))
     f.slots
 
--- the slot of a circuit number, and a slot that is changed
-slots_in_range-get_or : (n : ℕ) (ts : List Slot) (i : ℕ) → slots_in_range n ts ≡ true → i < n → slot_in_range (get_or ts i no_slot) ≡ true
-unfolding slots_in_range
-slots_in_range-get_or zero ts i e h = absurd (omega arith)
-slots_in_range-get_or (suc n) [] i e h = absurd (true≢false (sym e))
-slots_in_range-get_or (suc n) (t ∷ ts) zero e h = (and_elim (slot_in_range t) (slots_in_range n ts) e).0
-slots_in_range-get_or (suc n) (t ∷ ts) (suc i) e h =
-    slots_in_range-get_or n ts i (and_elim (slot_in_range t) (slots_in_range n ts) e).1 (omega arith)
+-- the first n slots, judged one after another: those from i on are in range exactly if all are
+module _ (given : Bool) (ts : List Slot) (n i : ℕ) (fits : n ≤ length ts)
+    (left : slots_in_range given i (n - i) (drop i ts) ≡ slots_in_range given 0 n ts) where
+  -- slot i, and those behind it
+  slots_at : i < n
+      → slots_in_range given 0 n ts ≡ (slot_in_range (longest_at given i) (get_or ts i no_slot) && slots_in_range given (i + 1) (n - (i + 1)) (drop (i + 1) ts))
+  unfolding slots_in_range
+  slots_at h =
+      let here : i < length ts = omega arith in
+      let more : n - i ≡ suc (n - (i + 1)) = omega arith in
+      sym left ∙ rw (more, drop-cons ts i no_slot here, add-one) refl
 
-pub slots_in_range-set : (n : ℕ) (ts : List Slot) (i : ℕ) (t : Slot) → slots_in_range n ts ≡ true → slot_in_range t ≡ true → slots_in_range n (set ts i t) ≡ true
-unfolding slots_in_range
-slots_in_range-set zero ts i t e h = refl
-slots_in_range-set (suc n) [] i t e h = e
-slots_in_range-set (suc n) (x ∷ ts) zero t e h = and_both _ _ h (and_elim (slot_in_range x) (slots_in_range n ts) e).1
-slots_in_range-set (suc n) (x ∷ ts) (suc i) t e h =
-    let (f, g) = and_elim (slot_in_range x) (slots_in_range n ts) e in
-    and_both _ _ f (slots_in_range-set n ts i t g h)
+  -- b tells of slot i: it is out of range
+  pub slots_out : i < n → (b : Bool) → b ≡ slot_in_range (longest_at given i) (get_or ts i no_slot) → b ≡ false → false ≡ slots_in_range given 0 n ts
+  slots_out h b t out = sym (slots_at h ∙ rw (← t, out))
 
-pub slot_in_range-slot_at : (s : Sender) (c : ℕ) → in_range s ≡ true → c < s.circuits.count → slot_in_range (slot_at s c) ≡ true
+  -- or it is in range, and those behind it are left
+  pub slots_in : i < n → (b : Bool) → b ≡ slot_in_range (longest_at given i) (get_or ts i no_slot) → b ≡ true
+      → slots_in_range given (i + 1) (n - (i + 1)) (drop (i + 1) ts) ≡ slots_in_range given 0 n ts
+  slots_in h b t inside = sym (slots_at h ∙ rw (← t, inside))
+
+  -- none is left
+  pub slots_end : n ≤ i → true ≡ slots_in_range given 0 n ts
+  unfolding slots_in_range
+  slots_end h =
+      let none : n - i ≡ 0 = omega arith in
+      rw none at left
+
+-- the slot of number k, which is the i-th from c on, and a slot that is changed
+slots_in_range-get_or : (given : Bool) (c n : ℕ) (ts : List Slot) (i k : ℕ) → k ≡ c + i → slots_in_range given c n ts ≡ true → i < n
+    → slot_in_range (longest_at given k) (get_or ts i no_slot) ≡ true
+unfolding slots_in_range
+slots_in_range-get_or given c zero ts i k at e h = absurd (omega arith)
+slots_in_range-get_or given c (suc n) [] i k at e h = absurd (true≢false (sym e))
+slots_in_range-get_or given c (suc n) (t ∷ ts) zero k at e h =
+    let same : k ≡ c = omega arith in
+    rw same (and_elim (slot_in_range (longest_at given c) t) (slots_in_range given (suc c) n ts) e).0
+slots_in_range-get_or given c (suc n) (t ∷ ts) (suc i) k at e h =
+    slots_in_range-get_or given (suc c) n ts i k (omega arith)
+    (and_elim (slot_in_range (longest_at given c) t) (slots_in_range given (suc c) n ts) e).1 (omega arith)
+
+slots_in_range-set_from : (given : Bool) (c n : ℕ) (ts : List Slot) (i k : ℕ) (t : Slot) → k ≡ c + i → slots_in_range given c n ts ≡ true
+    → slot_in_range (longest_at given k) t ≡ true → slots_in_range given c n (set ts i t) ≡ true
+unfolding slots_in_range
+slots_in_range-set_from given c zero ts i k t at e h = refl
+slots_in_range-set_from given c (suc n) [] i k t at e h = e
+slots_in_range-set_from given c (suc n) (x ∷ ts) zero k t at e h =
+    let same : c ≡ k = omega arith in
+    let here : slot_in_range (longest_at given c) t ≡ true = rw same h in
+    and_both _ _ here (and_elim (slot_in_range (longest_at given c) x) (slots_in_range given (suc c) n ts) e).1
+slots_in_range-set_from given c (suc n) (x ∷ ts) (suc i) k t at e h =
+    let (f, g) = and_elim (slot_in_range (longest_at given c) x) (slots_in_range given (suc c) n ts) e in
+    and_both _ _ f (slots_in_range-set_from given (suc c) n ts i k t (omega arith) g h)
+
+pub slots_in_range-set : (given : Bool) (n : ℕ) (ts : List Slot) (c : ℕ) (t : Slot) → slots_in_range given 0 n ts ≡ true
+    → slot_in_range (longest_at given c) t ≡ true → slots_in_range given 0 n (set ts c t) ≡ true
+slots_in_range-set given n ts c t e h = slots_in_range-set_from given 0 n ts c c t (omega arith) e h
+
+pub slot_in_range-slot_at : (given : Bool) (s : Sender) (c : ℕ) → in_range given s ≡ true → c < s.circuits.count
+    → slot_in_range (longest_at given c) (slot_at s c) ≡ true
 unfolding slot_at
-slot_in_range-slot_at s c e h = slots_in_range-get_or s.circuits.count s.slots c (in_range_facts s e).slots h
+slot_in_range-slot_at given s c e h = slots_in_range-get_or given 0 s.circuits.count s.slots c c (omega arith) (in_range_facts s e).slots h
+
+-- the same, with the bound that holds at every number
+pub slot_in_range-wide : (given : Bool) (s : Sender) (c : ℕ) → in_range given s ≡ true → c < s.circuits.count → slot_in_range longest_long (slot_at s c) ≡ true
+slot_in_range-wide given s c e h = slot_in_range_wider (slot_at s c) (longest_at_bounds given c).1 (slot_in_range-slot_at given s c e h)
+
+-- with a long buffer a record is in range that is so without one
+slots_in_range-given : (given : Bool) (c n : ℕ) (ts : List Slot) → slots_in_range given c n ts ≡ true → slots_in_range true c n ts ≡ true
+unfolding slots_in_range
+slots_in_range-given given c zero ts e = refl
+slots_in_range-given given c (suc n) [] e = e
+slots_in_range-given given c (suc n) (t ∷ ts) e =
+    let (f, g) = and_elim (slot_in_range (longest_at given c) t) (slots_in_range given (suc c) n ts) e in
+    and_both _ _ (slot_in_range_wider t (longest_at-given given c) f) (slots_in_range-given given (suc c) n ts g)
+
+pub in_range-given : (given : Bool) (s : Sender) → in_range given s ≡ true → in_range true s ≡ true
+in_range-given given s e =
+    let f = in_range_facts s e in
+    facts_in_range s
+    (record {
+      count = f.count;
+      circuits = f.circuits;
+      last = f.last;
+      enable = f.enable;
+      slots = slots_in_range-given given 0 s.circuits.count s.slots f.slots;
+    })

@@ -1,14 +1,16 @@
 // The sender's record: a sender is listed, and a message is offered at a circuit.
 #![tactic(auto)]
 
-ghost use Rattle.std.specs.Prelude.{◌≡◌, ◌+◌, ◌*◌, ◌≤◌, ◌<◌, length};
+ghost use Rattle.std.specs.Prelude.{◌≡◌, ◌+◌, ◌*◌, ◌≤◌, ◌<◌, true, length};
+ghost use Rattle.std.proofs.lemmas.List.Edits.{sets};
 ghost use Rattle.packet.specs.Answers.{answer_of};
 ghost use Rattle.packet.specs.Circuits.{list_refusal, listing};
-ghost use Rattle.packet.specs.Messages.{longest};
-ghost use Rattle.packet.specs.Stores.{region};
+ghost use Rattle.packet.specs.Messages.{longest_long};
+ghost use Rattle.packet.specs.Stores.{region, stores, store_alone};
 ghost use Rattle.offering.specs.Record.{fresh};
-ghost use Rattle.offering.specs.Offering.{bounds_refusal, offer_refusal, offered_sender, offered_store, sender_after_offer, store_after_offer};
+ghost use Rattle.offering.specs.Offering.{bounds_refusal, offer_refusal, offered_sender, sender_after_offer, stores_after_offer};
 
+pub mod long;
 pub mod slots;
 
 use packet::{Answer, Circuits, Listed, Refusal};
@@ -45,13 +47,16 @@ pub struct Offer<'a> {
 }
 
 impl Offer<'_> {
-    // What is offered is refused by 5 to 9, or not, by a sender for `count` circuits.
+    // What is offered is refused by 5 to 9 or 19, or not, by a sender for `count` circuits.
     #[tactic(auto, unfolding(crate::specs::Offering::bounds_refusal, crate::specs::Record::store_length, packet::specs::Stores::region, packet::specs::Messages::longest, packet::specs::Answers::answer_of, packet::specs::Answers::answered, packet::specs::Answers::refusal_of))]
-    pub fn check_bounds(self, store: &[u8], count: usize) -> Answer
-        ensures { result ≡ answer_of (bounds_refusal store.now count self.entry.circuit self.entry.priority self.entry.repetition self.entry.message.now) }
+    pub fn check_bounds(self, store: &[u8], given: bool, long: &[u8], count: usize) -> Answer
+        ensures { result ≡ answer_of (bounds_refusal (stores store.now given long.now) count self.entry.circuit self.entry.priority self.entry.repetition self.entry.message.now) }
     {
         if store.len() < Sender::STORE {
             return Err(Refusal::ShortStore);
+        }
+        if packet::long_short(given, long) {
+            return Err(Refusal::ShortLong);
         }
         if count <= self.circuit {
             return Err(Refusal::NoSuchCircuit);
@@ -106,13 +111,13 @@ impl Sender {
 
     // An offer is refused, or not.
     #[tactic(auto, using(crate::proofs::Ranges::in_range_facts, crate::proofs::Offers::bounds_circuit), unfolding(crate::specs::Offering::bounds_refusal, crate::specs::Offering::offer_refusal, crate::specs::Record::slot_at, crate::specs::Record::no_slot, packet::specs::Answers::answer_of, packet::specs::Answers::answered, packet::specs::Answers::refusal_of))]
-    fn check_offer(&self, store: &[u8], offer: Offer<'_>) -> Answer
-        ensures { result ≡ answer_of (offer_refusal self.now store.now offer.entry.circuit offer.entry.priority offer.entry.repetition offer.entry.message.now) }
+    fn check_offer(&self, store: &[u8], given: bool, long: &[u8], offer: Offer<'_>) -> Answer
+        ensures { result ≡ answer_of (offer_refusal self.now (stores store.now given long.now) offer.entry.circuit offer.entry.priority offer.entry.repetition offer.entry.message.now) }
     {
-        if !self.in_range() {
+        if !self.in_range(given) {
             return Err(Refusal::OutOfRange);
         }
-        offer.check_bounds(store, self.circuits.count as usize)?;
+        offer.check_bounds(store, given, long, self.circuits.count as usize)?;
         if pending(self.slots[offer.circuit]) {
             Err(Refusal::Pending)
         } else {
@@ -120,29 +125,57 @@ impl Sender {
         }
     }
 
-    // An offer is accepted: its message goes to the start of the circuit's region, and the circuit's slot has it to send.
-    // Stays: (d) the circuit and the length are asked of an offer that has just been let pass: as a type this is `self.accept(store, Judged::new(offer))`, taken apart again here.
-    #[tactic(auto, using(bits::proofs::Lists::sets_part), unfolding(crate::specs::Offering::offered_sender, crate::specs::Offering::offered_store, crate::specs::Record::slot_at, crate::specs::Record::no_slot, packet::specs::Stores::region))]
-    fn accept(&mut self, store: &mut [u8], offer: Offer<'_>)
-        requires { (offer.circuit < 4) × (length offer.message.now ≤ longest) × (region * offer.circuit + length offer.message.now ≤ length store.old) }
-        ensures { (self.new ≡ offered_sender self.old offer.entry.circuit offer.entry.priority offer.entry.repetition offer.entry.message.now)
-            × (store.new ≡ offered_store store.old offer.entry.circuit offer.entry.message.now) }
+    // The record with a message to send.
+    // Stays: (d) the circuit and the length are asked of an offer that has just been let pass: as a type this is `self.put(Judged::new(offer))`, taken apart again here.
+    #[tactic(auto, unfolding(crate::specs::Offering::offered_sender, crate::specs::Record::slot_at, crate::specs::Record::no_slot))]
+    fn put(&mut self, offer: Offer<'_>)
+        requires { (offer.circuit < 4) × (length offer.message.now ≤ longest_long) }
+        ensures { self.new ≡ offered_sender self.old offer.entry.circuit offer.entry.priority offer.entry.repetition offer.entry.message.now }
     {
-        let start = Sender::REGION * offer.circuit;
-        copying::copy_in(&mut store[start..], offer.message);
         let slot = self.slots[offer.circuit];
         self.slots[offer.circuit] = offered_slot(slot, offer);
     }
 
-    // A message is offered at a circuit.
-    #[tactic(auto, using(crate::proofs::Offers::accepted_room, crate::proofs::Offers::offer_refused, crate::proofs::Offers::offer_accepted))]
-    pub fn offer(&mut self, store: &mut [u8], offer: Offer<'_>) -> Answer
-        ensures { (result ≡ answer_of (offer_refusal self.old store.old offer.entry.circuit offer.entry.priority offer.entry.repetition offer.entry.message.now))
-            × (self.new ≡ sender_after_offer self.old store.old offer.entry.circuit offer.entry.priority offer.entry.repetition offer.entry.message.now)
-            × (store.new ≡ store_after_offer self.old store.old offer.entry.circuit offer.entry.priority offer.entry.repetition offer.entry.message.now) }
+    // An offer is accepted: its message goes to the start of the circuit's region, and the circuit's slot has it to send.
+    // Stays: (d) as for `put`.
+    #[tactic(auto, using(bits::proofs::Lists::sets_part), unfolding(packet::specs::Stores::region))]
+    fn accept(&mut self, store: &mut [u8], offer: Offer<'_>)
+        requires { (offer.circuit < 4) × (length offer.message.now ≤ longest_long) × (region * offer.circuit + length offer.message.now ≤ length store.old) }
+        ensures { (self.new ≡ offered_sender self.old offer.entry.circuit offer.entry.priority offer.entry.repetition offer.entry.message.now)
+            × (store.new ≡ sets store.old (region * offer.entry.circuit) offer.entry.message.now) }
     {
-        self.check_offer(store, offer)?;
+        let start = Sender::REGION * offer.circuit;
+        copying::copy_in(&mut store[start..], offer.message);
+        self.put(offer);
+    }
+
+    // A message is offered at a circuit, with the long buffer given or not.
+    #[tactic(auto, using(crate::proofs::Offers::accepted_room, crate::proofs::Offers::offer_refused, crate::proofs::Offers::offer_accepted), unfolding(crate::specs::Offering::offered_stores))]
+    fn offer_to(&mut self, store: &mut [u8], given: bool, long: &[u8], offer: Offer<'_>) -> Answer
+        ensures { (result ≡ answer_of (offer_refusal self.old (stores store.old given long.now) offer.entry.circuit offer.entry.priority offer.entry.repetition offer.entry.message.now))
+            × (self.new ≡ sender_after_offer self.old (stores store.old given long.now) offer.entry.circuit offer.entry.priority offer.entry.repetition offer.entry.message.now)
+            × (stores store.new given long.now ≡ stores_after_offer self.old (stores store.old given long.now) offer.entry.circuit offer.entry.priority offer.entry.repetition offer.entry.message.now) }
+    {
+        self.check_offer(store, given, long, offer)?;
         self.accept(store, offer);
         Ok(())
+    }
+
+    // A message is offered at a circuit by an end that has no long buffer.
+    pub fn offer(&mut self, store: &mut [u8], offer: Offer<'_>) -> Answer
+        ensures { (result ≡ answer_of (offer_refusal self.old (store_alone store.old) offer.entry.circuit offer.entry.priority offer.entry.repetition offer.entry.message.now))
+            × (self.new ≡ sender_after_offer self.old (store_alone store.old) offer.entry.circuit offer.entry.priority offer.entry.repetition offer.entry.message.now)
+            × (store_alone store.new ≡ stores_after_offer self.old (store_alone store.old) offer.entry.circuit offer.entry.priority offer.entry.repetition offer.entry.message.now) }
+    {
+        self.offer_to(store, false, &[], offer)
+    }
+
+    // A message is offered at a circuit by an end that has the long buffer.
+    pub fn offer_beside(&mut self, store: &mut [u8], long: &[u8], offer: Offer<'_>) -> Answer
+        ensures { (result ≡ answer_of (offer_refusal self.old (stores store.old true long.now) offer.entry.circuit offer.entry.priority offer.entry.repetition offer.entry.message.now))
+            × (self.new ≡ sender_after_offer self.old (stores store.old true long.now) offer.entry.circuit offer.entry.priority offer.entry.repetition offer.entry.message.now)
+            × (stores store.new true long.now ≡ stores_after_offer self.old (stores store.old true long.now) offer.entry.circuit offer.entry.priority offer.entry.repetition offer.entry.message.now) }
+    {
+        self.offer_to(store, true, long, offer)
     }
 }

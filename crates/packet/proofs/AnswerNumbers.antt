@@ -14,17 +14,17 @@ number_here n m r rest is least later = go (eqb n m) refl
     go false e = let other : n ≡ m → ⊥ = eqb-false n m e in later (omega arith)
 
 -- the refusal with a number has it
-pub refusal_number-refusal_of : (n : ℕ) → 1 ≤ n → n ≤ 17 → refusal_number (refusal_of n) ≡ n
+pub refusal_number-refusal_of : (n : ℕ) → 1 ≤ n → n ≤ 19 → refusal_number (refusal_of n) ≡ n
 unfolding refusal_number refusal_of
 refusal_number-refusal_of n some most =
     number_here n 1 _ _ refl some (λ h. number_here n 2 _ _ refl h (λ h. number_here n 3 _ _ refl h (λ h. number_here n 4 _ _ refl h
     (λ h. number_here n 5 _ _ refl h (λ h. number_here n 6 _ _ refl h (λ h. number_here n 7 _ _ refl h (λ h. number_here n 8 _ _ refl h
     (λ h. number_here n 9 _ _ refl h (λ h. number_here n 10 _ _ refl h (λ h. number_here n 11 _ _ refl h (λ h. number_here n 12 _ _ refl h
     (λ h. number_here n 13 _ _ refl h (λ h. number_here n 14 _ _ refl h (λ h. number_here n 15 _ _ refl h (λ h. number_here n 16 _ _ refl h
-    (λ h. omega arith))))))))))))))))
+    (λ h. number_here n 17 _ _ refl h (λ h. number_here n 18 _ _ refl h (λ h. omega arith))))))))))))))))))
 
 -- an answer's number is the number that gives it
-pub answer_number-answered : {A : Type 0} (n : ℕ) (a : A) → n ≤ 17 → answer_number (answered n a) ≡ n
+pub answer_number-answered : {A : Type 0} (n : ℕ) (a : A) → n ≤ 19 → answer_number (answered n a) ≡ n
 unfolding answer_number answered
 answer_number-answered {A} n a most = go (eqb n 0) refl
   where
@@ -32,7 +32,7 @@ answer_number-answered {A} n a most = go (eqb n 0) refl
     go true e = sym (eqb-true n 0 e)
     go false e = let some : n ≡ 0 → ⊥ = eqb-false n 0 e in refusal_number-refusal_of n (omega arith) most
 
-pub answer_number-answer_of : (n : ℕ) → n ≤ 17 → answer_number (answer_of n) ≡ n
+pub answer_number-answer_of : (n : ℕ) → n ≤ 19 → answer_number (answer_of n) ≡ n
 unfolding answer_of
 answer_number-answer_of n most = answer_number-answered n tt most
 

@@ -2,6 +2,7 @@
 pub mod Lists
 pub mod CircuitLists
 pub mod Segments
+pub mod LongBuffers
 pub mod PacketBytes
 pub mod AnswerNumbers
 pub mod Choices

@@ -12,7 +12,7 @@ use lib.ListN.{length, take, drop, length-append, length-take, length-drop}
 use lib.Seq.{take_all, take-add, take-append-add, drop-append-add}
 use Rattle.bits.specs.Bits.{Bytes}
 use Rattle.bits.proofs.Bits.{Bytes_append, Bytes-take, Bytes-drop}
-use Rattle.packet.specs.Messages.{longest, header, headed, segment, segments_up_to, part_from, part_of, packets, link_of}
+use Rattle.packet.specs.Messages.{longest, longest_long, long_header, header, headed, segment, segments_up_to, part_from, part_of, packets, link_of, LongByValue}
 use Rattle.packet.proofs.Lists.{take_min}
 
 -- the header of a short message and of a long one
@@ -20,12 +20,12 @@ pub header_short : (n : ℕ) → n ≤ 15 → header n ≡ n ∷ []
 unfolding header
 header_short n h = rw (le-leb n 15 h)
 
-pub header_long : (n : ℕ) → 15 < n → header n ≡ (16 + n / 256) ∷ (n % 256) ∷ []
+pub header_long : (n : ℕ) → 15 < n → header n ≡ (16 + min n long_header / 256) ∷ (min n long_header % 256) ∷ []
 unfolding header
 header_long n h = rw (lt-leb n 15 h)
 
 -- a header has one byte or two, and these are bytes
-header_either : (P : List ℕ → Type 0) (n : ℕ) → (n ≤ 15 → P (n ∷ [])) → (15 < n → P ((16 + n / 256) ∷ (n % 256) ∷ [])) → P (header n)
+header_either : (P : List ℕ → Type 0) (n : ℕ) → (n ≤ 15 → P (n ∷ [])) → (15 < n → P ((16 + min n long_header / 256) ∷ (min n long_header % 256) ∷ [])) → P (header n)
 header_either P n short long = go (leb n 15) refl
   where
     go : (t : Bool) → leb n 15 ≡ t → P (header n)
@@ -35,14 +35,32 @@ header_either P n short long = go (leb n 15) refl
 pub length-header : (n : ℕ) → (1 ≤ length (header n)) × (length (header n) ≤ 2)
 length-header n = header_either (λ l. (1 ≤ length l) × (length l ≤ 2)) n (λ h. omega arith) (λ h. omega arith)
 
-header-Bytes : (n : ℕ) → n ≤ longest → Bytes (header n)
-unfolding Bytes longest
-header-Bytes n h = header_either Bytes n (λ s. (omega arith, tt)) (λ l. (omega arith, (omega arith, tt)))
+header-Bytes : (n : ℕ) → Bytes (header n)
+unfolding Bytes
+header-Bytes n = header_either Bytes n (λ s. (omega arith, tt)) (λ l. (omega arith, (omega arith, tt)))
 
 -- the number of packets
-pub packets-most : (n : ℕ) → n ≤ longest → packets n ≤ 256
-unfolding packets longest
+pub packets-most : (n : ℕ) → n ≤ longest_long → packets n ≤ 4097
+unfolding packets longest_long
 packets-most n h = omega (arith, length-header n)
+
+header-long : (n : ℕ) → longest < n → header n ≡ 0x1f ∷ 0xff ∷ []
+unfolding longest
+header-long n h =
+    let e : min n long_header ≡ long_header = omega arith in
+    header_long n (omega arith) ∙ ap (λ (k : ℕ). (16 + k / 256) ∷ (k % 256) ∷ []) e
+
+pub long_by_value : LongByValue
+unfolding packets header longest_long
+long_by_value =
+    record {
+      header = header-long;
+      shortest = refl;
+      last_full = refl;
+      last_one = refl;
+      almost = refl;
+      most = refl;
+    }
 
 -- a segment of a packet has 1 to 16 bytes
 length-headed : (m : List ℕ) → length (headed m) ≡ length (header (length m)) + length m
@@ -110,11 +128,11 @@ unfolding part_of part_from
 part_of_eq n k from room len starts ends fits = cc (min_sub room from (16 * (k + 1) - length (header n)) n ends)
 
 -- the bytes of a segment
-pub segment-Bytes : (m : List ℕ) (k : ℕ) → length m ≤ longest → Bytes m → Bytes (segment m k)
+pub segment-Bytes : (m : List ℕ) (k : ℕ) → Bytes m → Bytes (segment m k)
 unfolding segment headed
-segment-Bytes m k short h =
+segment-Bytes m k h =
     Bytes-take 16 (drop (16 * k) (header (length m) ++ m))
-    (Bytes-drop (16 * k) (header (length m) ++ m) (Bytes_append (header (length m)) m (header-Bytes (length m) short) h))
+    (Bytes-drop (16 * k) (header (length m) ++ m) (Bytes_append (header (length m)) m (header-Bytes (length m)) h))
 
 -- a link number is 0, 1 or 2
 pub link_of_lt : (k n : ℕ) → link_of k n < 3

@@ -20,9 +20,11 @@ use Rattle.packet.specs.declared.Refusal.TheVariants.{
   WrongStretch,
   ShortOutput,
   WrongPacket,
+  LongLength,
+  ShortLong,
 }
 
--- the number of a refusal: 1 to 15 of document 01, "Calls and their refusals"; 16 and 17 of document 02, ask 3
+-- the number of a refusal: 1 to 15 of document 01, "Calls and their refusals"; 16 and 17 of document 02, ask 3; 18 and 19 of its ask 7
 unfoldable pub refusal_number : Refusal → ℕ
 refusal_number ListLength = 1
 refusal_number AddressFF = 2
@@ -41,6 +43,8 @@ refusal_number OutOfRange = 14
 refusal_number WrongStretch = 15
 refusal_number ShortOutput = 16
 refusal_number WrongPacket = 17
+refusal_number LongLength = 18
+refusal_number ShortLong = 19
 
 -- the refusal with a number
 unfoldable pub refusal_of : ℕ → Refusal
@@ -48,7 +52,7 @@ refusal_of n =
     cond (eqb n 1) ListLength (cond (eqb n 2) AddressFF (cond (eqb n 3) WrongExtension (cond (eqb n 4) TwoAlike (cond (eqb n 5) ShortStore
     (cond (eqb n 6) NoSuchCircuit (cond (eqb n 7) PriorityTooHigh (cond (eqb n 8) RepetitionTooHigh (cond (eqb n 9) MessageTooLong
     (cond (eqb n 10) Pending (cond (eqb n 11) WrongSize (cond (eqb n 12) ShortBuffer (cond (eqb n 13) WrongSystem (cond (eqb n 14) OutOfRange
-    (cond (eqb n 15) WrongStretch (cond (eqb n 16) ShortOutput WrongPacket)))))))))))))))
+    (cond (eqb n 15) WrongStretch (cond (eqb n 16) ShortOutput (cond (eqb n 17) WrongPacket (cond (eqb n 18) LongLength ShortLong)))))))))))))))))
 
 -- the number of an answer
 unfoldable pub answer_number : {A : Type 0} → Result A Refusal → ℕ

@@ -1,17 +1,23 @@
 // Circuits, messages and packets as bytes.
 #![tactic(auto)]
 
-ghost use Rattle.std.specs.Prelude.{◌≡◌, ◌≤◌, ◌<◌, length, get_or};
+ghost use Rattle.std.specs.Prelude.{◌≡◌, true, List, ℕ, ◌<◌, length, get_or};
 ghost use Rattle.packet.specs.Answers.{refusal_number};
-ghost use Rattle.packet.specs.Messages.{longest, header, part_of, packets, link_of};
+ghost use Rattle.packet.specs.Messages.{header, part_of, packets, link_of, LongByValue};
 ghost use Rattle.packet.specs.Packets.{link_number, control};
+ghost use Rattle.packet.specs.Stores.{stores, store_alone, stores_of, takes_long, longest_at, long_short};
 
 pub mod circuit_lists;
 
-// A circuit's region of the store, and the longest message, in bytes.
+// A circuit's region of the store, the longest message and the longest long one, which is also the length of the buffer for it, in bytes.
 pub const REGION: usize = 4096;
 
 pub const LONGEST_MESSAGE: usize = 4094;
+
+pub const LONGEST_LONG: usize = 65535;
+
+// The length that a long message's header holds.
+pub const LONG_HEADER: usize = 4095;
 
 // A circuit: an address byte, with an extension byte where `extended` is 1.
 // Stays: (a) a record lent by C holds any three bytes here, and `wrong_extension` (refusals 3 and 14) speaks of all of them.
@@ -44,6 +50,38 @@ pub struct Part {
     pub len: usize,
 }
 
+// What is lent to a call that reads it: the store and, where one is given, the long buffer beside it.
+#[derive(Clone, Copy)]
+pub struct Stores<'a> {
+    pub store: &'a [u8],
+    pub given: bool,
+    pub long: &'a [u8],
+}
+
+impl<'a> Stores<'a> {
+    // The store alone.
+    pub fn alone(store: &'a [u8]) -> Stores<'a>
+        ensures { stores_of result ≡ store_alone store.now }
+    {
+        Stores {
+            store,
+            given: false,
+            long: &[],
+        }
+    }
+
+    // The store with a long buffer.
+    pub fn beside(store: &'a [u8], long: &'a [u8]) -> Stores<'a>
+        ensures { stores_of result ≡ stores store.now true long.now }
+    {
+        Stores {
+            store,
+            given: true,
+            long,
+        }
+    }
+}
+
 // The number of bytes of the header of a message of n bytes.
 #[tactic(auto, unfolding(crate::specs::Messages::header))]
 pub fn header_length(n: usize) -> usize
@@ -55,25 +93,23 @@ pub fn header_length(n: usize) -> usize
 // The first byte of that header.
 #[tactic(auto, unfolding(crate::specs::Messages::header, crate::specs::Messages::longest))]
 pub fn header_first(n: usize) -> u8
-    requires { n ≤ longest }
     ensures { result ≡ get_or (header n) 0 0 }
 {
     if n <= 15 {
         return n as u8;
     }
-    (16 + n / 256) as u8
+    (16 + n.min(LONG_HEADER) / 256) as u8
 }
 
 // The second byte of that header, 0 if it has only one.
 #[tactic(auto, unfolding(crate::specs::Messages::header))]
 pub fn header_second(n: usize) -> u8
-    requires { n ≤ longest }
     ensures { result ≡ get_or (header n) 1 0 }
 {
     if n <= 15 {
         return 0;
     }
-    (n % 256) as u8
+    (n.min(LONG_HEADER) % 256) as u8
 }
 
 impl Part {
@@ -100,6 +136,40 @@ pub fn packets(n: usize) -> usize
 {
     if n <= 15 { 1 } else { 2 + (n - 15) / 16 }
 }
+
+// A circuit number takes long messages: 0, where a buffer is given.
+#[tactic(auto, unfolding(crate::specs::Stores::takes_long))]
+pub fn takes_long(given: bool, circuit: usize) -> bool
+    ensures { result ≡ takes_long given circuit }
+{
+    given && circuit == 0
+}
+
+// The longest message that a circuit number may have.
+#[tactic(auto, unfolding(crate::specs::Stores::longest_at, crate::specs::Messages::longest, crate::specs::Messages::longest_long))]
+pub fn longest_at(given: bool, circuit: usize) -> usize
+    ensures { result ≡ longest_at given circuit }
+{
+    if takes_long(given, circuit) {
+        LONGEST_LONG
+    } else {
+        LONGEST_MESSAGE
+    }
+}
+
+// A long buffer is given and too short: what refusal 19 says.
+#[tactic(auto, unfolding(crate::specs::Stores::long_short, crate::specs::Messages::longest_long))]
+pub fn long_short(given: bool, long: &[u8]) -> bool
+    ensures { (store : List ℕ) → result ≡ long_short (stores store given long.now) }
+{
+    given && long.len() < LONGEST_LONG
+}
+
+// What the length of a long message gives.
+#[tactic(auto, using(crate::proofs::Segments::long_by_value))]
+fn long_by_value()
+    ensures { LongByValue }
+{}
 
 // The link of a packet: its number in A7 A6 of the control byte.
 #[derive(Clone, Copy, Debug, PartialEq, Eq)]
@@ -138,7 +208,7 @@ pub fn control(link: Link, extended: u8, index: u8, priority: u8) -> u8
     64 * link as u8 + 32 * extended + 4 * index + priority
 }
 
-// The refusals, with their numbers: 1 to 15 of document 01, 16 and 17 of document 02.
+// The refusals, with their numbers: 1 to 15 of document 01, 16 to 19 of document 02.
 #[derive(Clone, Copy, Debug, PartialEq, Eq)]
 pub enum Refusal {
     ListLength = 1,
@@ -158,6 +228,8 @@ pub enum Refusal {
     WrongStretch = 15,
     ShortOutput = 16,
     WrongPacket = 17,
+    LongLength = 18,
+    ShortLong = 19,
 }
 
 impl From<Refusal> for u32 {

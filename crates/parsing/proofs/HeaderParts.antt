@@ -1,15 +1,15 @@
 -- The header in a message's first packet: its cases and bounds, and the message bytes in a later packet.
 use Prim.Native.Nat.{ℕ, ◌+◌, ◌*◌, ◌%◌, ◌≤◌, ◌<◌}
 use native.Mathlib.Omega.{arith}
-use mathlib.Core.Bool.{Bool, true, false, cond, ◌||◌}
+use mathlib.Core.Bool.{Bool, true, false, cond, not, ◌&&◌, ◌||◌}
 use mathlib.Core.List.{List}
 use mathlib.Core.Path.{◌≡◌, refl}
-use borrow.Author.Tests.{ne_eqb, le-ltb, eqb-false, ltb-false}
+use borrow.Author.Tests.{eq-eqb, ne_eqb, le-ltb, ltb-false, not-false}
 use lib.Dec.{ltb, eqb}
 use lib.ListN.{length, get_or}
 use lib.Seq.{get_or-drop}
 use Rattle.bits.proofs.Tests.{or_left, or_right}
-use Rattle.packet.specs.Messages.{longest}
+use Rattle.packet.specs.Messages.{long_header}
 use Rattle.parsing.specs.Packets.{link, lead, segment_in}
 use Rattle.parsing.specs.Headers.{two_bytes, header_length, message_length, wrong_header, message_part}
 
@@ -33,26 +33,32 @@ module _ (s : List ℕ) where
   message_length_two e = rw e
 
   -- it is at most 4,095
-  message_length-most : get_or s 1 0 < 256 → message_length s ≤ 4095
+  pub message_length-most : get_or s 1 0 < 256 → message_length s ≤ long_header
   unfolding message_length
   message_length-most second = go (two_bytes s)
     where
-      go : (t : Bool) → cond t (256 * (get_or s 0 0 % 16) + get_or s 1 0) (get_or s 0 0 % 16) ≤ 4095
+      go : (t : Bool) → cond t (256 * (get_or s 0 0 % 16) + get_or s 1 0) (get_or s 0 0 % 16) ≤ long_header
       go true = omega (arith, second)
       go false = omega arith
 
   -- it is wrong, test by test
-  pub wrong_header_one : two_bytes s ≡ false → false ≡ wrong_header s
-  unfolding wrong_header
-  wrong_header_one e = rw e
+  module _ (taken : Bool) where
+    pub wrong_header_one : two_bytes s ≡ false → false ≡ wrong_header taken s
+    unfolding wrong_header
+    wrong_header_one e = rw e
 
-  pub wrong_header_last : (n : ℕ) → n ≡ message_length s → two_bytes s ≡ true → 2 ≤ length s → 16 ≤ n → eqb n 4095 ≡ wrong_header s
-  unfolding wrong_header
-  wrong_header_last n is e h above = rw (e, le-ltb (length s) 2 h, ← is, le-ltb n 16 above)
+    module _ (n : ℕ) (is : n ≡ message_length s) (e : two_bytes s ≡ true) (h : 2 ≤ length s) where
+      pub wrong_header_short : 16 ≤ n → (n ≡ long_header → ⊥) → false ≡ wrong_header taken s
+      unfolding wrong_header
+      wrong_header_short above other = rw (e, le-ltb (length s) 2 h, ← is, le-ltb n 16 above, ne_eqb n long_header other)
 
-  -- one that is not wrong lies within the segment, and holds the length of a message
-  module _ (right : wrong_header s ≡ false) where
-    right_two : two_bytes s ≡ true → (ltb (length s) 2 || ltb (message_length s) 16 || eqb (message_length s) 4095) ≡ false
+      pub wrong_header_long : n ≡ long_header → not taken ≡ wrong_header taken s
+      unfolding wrong_header
+      wrong_header_long long = rw (e, le-ltb (length s) 2 h, ← is, long)
+
+  -- one that is not wrong lies within the segment, and holds that of a long message only where it is taken
+  module _ (taken : Bool) (right : wrong_header taken s ≡ false) where
+    right_two : two_bytes s ≡ true → (ltb (length s) 2 || ltb (message_length s) 16 || (eqb (message_length s) long_header && not taken)) ≡ false
     unfolding wrong_header
     right_two e = rw e at right
 
@@ -65,15 +71,14 @@ module _ (s : List ℕ) where
             omega (arith, long, header_length_two e)
         go false e = omega (arith, some, header_length_one e)
 
-    pub right_length : get_or s 1 0 < 256 → message_length s ≤ longest
-    unfolding longest
-    right_length second = go (two_bytes s) refl
+    pub right_taken : message_length s ≡ long_header → taken ≡ true
+    right_taken long = go (two_bytes s) refl
       where
-        go : (t : Bool) → two_bytes s ≡ t → message_length s ≤ longest
+        go : (t : Bool) → two_bytes s ≡ t → taken ≡ true
         go true e =
-            let other = eqb-false (message_length s) 4095 (or_right (ltb (length s) 2 || ltb (message_length s) 16) _ (right_two e)) in
-            omega (arith, other, message_length-most second)
-        go false e = omega (arith, message_length_one e)
+            let last = or_right (ltb (length s) 2 || ltb (message_length s) 16) _ (right_two e) in
+            not-false taken (rw (eq-eqb (message_length s) long_header long) at last)
+        go false e = absurd (omega (arith, long, message_length_one e))
 
 -- ---- the message bytes in a packet, with s for its segment and k for its link
 

@@ -86,16 +86,16 @@ impl<'a> Segment<'a> {
         usize::from(u16::from_be_bytes([low, second]))
     }
 
-    // The header is wrong.
+    // The header is wrong, where that of long messages is taken or not.
     #[tactic(auto, unfolding(crate::specs::Headers::wrong_header))]
-    pub fn header_wrong(&self) -> bool
-        ensures { result ≡ wrong_header self.now }
+    pub fn header_wrong(&self, taken: bool) -> bool
+        ensures { result ≡ wrong_header taken self.now }
     {
         if !self.two_bytes() {
             return false;
         }
         let n = self.message_length();
-        self.bytes.len() < 2 || n < 16 || n == 4095
+        self.bytes.len() < 2 || n < 16 || (n == packet::LONG_HEADER && !taken)
     }
 }
 

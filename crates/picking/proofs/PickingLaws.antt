@@ -1,10 +1,11 @@
 -- Picking and serving: what is known of the circuit that is picked; that it is the one of the highest rank; and that serving it
 -- leaves a record in range with one copy less to place.
-use Rattle.std.proofs.Common.{◌≡◌, ℕ, zero, suc, ◌+◌, ◌-◌, ◌*◌, ◌%◌, ◌<◌, ◌≤◌, Bool, true, false, cond, eqb, ltb, List, [], ◌∷◌, length, Option, None, Some, refl, ap, ◌∙◌, suc-mul, arith, length-set, ltb-false, ltb-true, le-ltb, lt-ltb, eq-eqb, eqb-true}
+use Rattle.std.proofs.Common.{◌≡◌, ℕ, zero, suc, ◌+◌, ◌-◌, ◌*◌, ◌%◌, ◌<◌, ◌≤◌, Bool, true, false, cond, eqb, ltb, List, [], ◌∷◌, Option, None, Some, refl, ap, ◌∙◌, suc-mul, arith, ltb-false, ltb-true, le-ltb, lt-ltb, eq-eqb, eqb-true}
 use borrow.Author.Tests.{eqb-false}
-use Rattle.packet.specs.Messages.{packets}
+use Rattle.packet.specs.Messages.{longest_long, packets}
 use Rattle.offering.specs.declared.Slot.{Slot}
 use Rattle.offering.specs.declared.Sender.{Sender}
+use Rattle.packet.specs.Stores.{longest_at}
 use Rattle.offering.specs.Record.{slot_at, pending, slot_in_range, in_range}
 use Rattle.offering.proofs.Ranges.{and_elim, SlotFacts, slot_in_range_facts, facts_slot_in_range, in_range_facts, facts_in_range, slots_in_range-set, slot_in_range-slot_at}
 use Rattle.picking.specs.Picking.{enabled, waits_at, going_round, first_waiting, or_else, pick_from, pick, copy_placed, packet_placed, advanced, served, copies_waiting}
@@ -65,8 +66,8 @@ pub pick_waits : (s : Sender) (enable c : ℕ) → pick s enable ≡ Some c → 
 unfolding pick
 pick_waits s enable c e = pick_from_waits s enable (3 ∷ 2 ∷ 1 ∷ 0 ∷ []) c e
 
-pub pick_lt : (s : Sender) (enable c : ℕ) → in_range s ≡ true → pick s enable ≡ Some c → c < 4
-pick_lt s enable c e p =
+pub pick_lt : (given : Bool) (s : Sender) (enable c : ℕ) → in_range given s ≡ true → pick s enable ≡ Some c → c < 4
+pick_lt given s enable c e p =
     let f = in_range_facts s e in
     let g = pick_waits s enable c p in
     omega arith
@@ -186,10 +187,10 @@ module _ (s : Sender) (enable : ℕ) where
       go zero = refl
       go (suc p) = pick_from_next p (λ c l. omega (arith, h c l)) ∙ go p
 
-  pub pick_best : (k : ℕ) → in_range s ≡ true → k < 4 → 0 < rank s enable k → ((c : ℕ) → c < 4 → rank s enable c ≤ rank s enable k)
+  pub pick_best : (given : Bool) (k : ℕ) → in_range given s ≡ true → k < 4 → 0 < rank s enable k → ((c : ℕ) → c < 4 → rank s enable c ≤ rank s enable k)
       → pick s enable ≡ Some k
   unfolding pick pick_from below or_else waits_at
-  pick_best k range small some-rank best = go 4 (omega (arith, (slot_in_range_facts (slot_at s k) (slot_in_range-slot_at s k range f.count)).priority))
+  pick_best given k range small some-rank best = go 4 (omega (arith, (slot_in_range_facts (slot_at s k) (slot_in_range-slot_at given s k range f.count)).priority))
     where
       f : Picked s enable k
       f = rank_picked s enable k some-rank
@@ -218,10 +219,10 @@ module _ (s : Sender) (enable : ℕ) where
 
 -- a slot in range with a copy to place
 pub record SlotPending (t : Slot) : Type 0 where
-  pub in_range : SlotFacts t
+  pub in_range : SlotFacts longest_long t
   pub pending : t.place < packets t.length
 
-pub slot_pending : (t : Slot) → slot_in_range t ≡ true → pending t ≡ true → SlotPending t
+pub slot_pending : (t : Slot) → slot_in_range longest_long t ≡ true → pending t ≡ true → SlotPending t
 unfolding pending
 slot_pending t e p = record { in_range = slot_in_range_facts t e; pending = ltb-true _ _ p }
 
@@ -246,12 +247,14 @@ advanced_cases P t f g = go (ltb t.copy t.repetition) refl
         rw (advanced-packet_placed t h) (g h)
 
 -- a slot stays in range, and one copy less waits there
-pub slot_in_range-advanced : (t : Slot) → slot_in_range t ≡ true → pending t ≡ true → slot_in_range (advanced t) ≡ true
-slot_in_range-advanced t e p =
-    let f = slot_pending t e p in
-    facts_slot_in_range (advanced t) (advanced_cases SlotFacts t (λ h. omega arith) (λ h. omega arith))
+pub slot_in_range-advanced : (most : ℕ) (t : Slot) → slot_in_range most t ≡ true → pending t ≡ true → slot_in_range most (advanced t) ≡ true
+unfolding pending
+slot_in_range-advanced most t e p =
+    let f = slot_in_range_facts t e in
+    let more : t.place < packets t.length = ltb-true _ _ p in
+    facts_slot_in_range (advanced t) (advanced_cases (SlotFacts most) t (λ h. omega arith) (λ h. omega arith))
 
-pub copies_served : (t : Slot) → slot_in_range t ≡ true → pending t ≡ true → copies_waiting (advanced t) + 1 ≡ copies_waiting t
+pub copies_served : (t : Slot) → slot_in_range longest_long t ≡ true → pending t ≡ true → copies_waiting (advanced t) + 1 ≡ copies_waiting t
 unfolding copies_waiting
 copies_served t e p =
     let f = slot_pending t e p in
@@ -262,21 +265,18 @@ copies_served t e p =
     (λ h. rw (all, suc-mul) (omega arith))
 
 -- the record stays in range
-pub served_in_range : (s : Sender) (enable c : ℕ) → in_range s ≡ true → pick s enable ≡ Some c → in_range (served s c) ≡ true
+pub served_in_range : (given : Bool) (s : Sender) (enable c : ℕ) → in_range given s ≡ true → pick s enable ≡ Some c → in_range given (served s c) ≡ true
 unfolding served
-served_in_range s enable c e p =
+served_in_range given s enable c e p =
     let f = in_range_facts s e in
     let g = pick_waits s enable c p in
-    let t : slot_in_range (advanced (slot_at s c)) ≡ true = slot_in_range-advanced (slot_at s c) (slot_in_range-slot_at s c e g.count) g.pending in
+    let t : slot_in_range (longest_at given c) (advanced (slot_at s c)) ≡ true =
+    slot_in_range-advanced (longest_at given c) (slot_at s c) (slot_in_range-slot_at given s c e g.count) g.pending in
     facts_in_range (served s c)
     (record {
       count = f.count;
       circuits = f.circuits;
       last = omega arith;
       enable = f.enable;
-      slots = slots_in_range-set s.circuits.count s.slots c (advanced (slot_at s c)) f.slots t;
+      slots = slots_in_range-set given s.circuits.count s.slots c (advanced (slot_at s c)) f.slots t;
     })
-
-pub length-served : (s : Sender) (c : ℕ) → length (served s c).slots ≡ length s.slots
-unfolding served
-length-served s c = length-set s.slots c (advanced (slot_at s c))

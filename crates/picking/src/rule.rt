@@ -1,5 +1,6 @@
 // The block rule: which circuit's frame is next, and the record after a copy of it is placed.
 ghost use Rattle.std.specs.Prelude.{◌≡◌, ◌<◌, true};
+ghost use Rattle.packet.specs.Messages.{longest_long};
 ghost use Rattle.offering.specs.Record.{slot_at, pending, slot_in_range, in_range};
 ghost use Rattle.picking.specs.Picking.{enabled, pick, advanced, served};
 ghost use Rattle.picking.specs.Picked.{rank};
@@ -19,7 +20,7 @@ fn enabled(enable: u8, priority: u8) -> bool
 // going round after the one last served.
 // Stays: (a) a number, 0 where none waits: the definition `rank` of specs/Picked.antt is one.
 fn rank(sender: Sender, enable: u8, circuit: usize) -> u8
-    requires sender_value { in_range sender ≡ true }
+    requires sender_value { in_range true sender ≡ true }
     requires circuit_bound { circuit < 4 }
     ensures { result ≡ rank sender enable circuit }
 {
@@ -39,7 +40,7 @@ fn rank(sender: Sender, enable: u8, circuit: usize) -> u8
 
 // The circuit whose frame is next, of the highest rank.
 pub fn pick(sender: Sender, enable: u8) -> Option<usize>
-    requires { in_range sender ≡ true }
+    requires { in_range true sender ≡ true }
     ensures { result ≡ pick sender enable }
 {
     let mut best: u8 = 0;
@@ -55,9 +56,9 @@ pub fn pick(sender: Sender, enable: u8) -> Option<usize>
 }
 
 // The slot after a copy is placed: the packet's next copy, or the next packet's first.
-#[tactic(auto, unfolding(crate::specs::Picking::advanced, offering::specs::Record::slot_in_range, offering::specs::Record::pending, packet::specs::Messages::packets, packet::specs::Messages::header, packet::specs::Messages::longest))]
+#[tactic(auto, unfolding(crate::specs::Picking::advanced, offering::specs::Record::slot_in_range, offering::specs::Record::pending, packet::specs::Messages::packets, packet::specs::Messages::header, packet::specs::Messages::longest_long))]
 fn advance(t: Slot) -> Slot
-    requires { (slot_in_range t ≡ true) × (pending t ≡ true) }
+    requires { (slot_in_range longest_long t ≡ true) × (pending t ≡ true) }
     ensures { result ≡ advanced t }
 {
     if t.copy < t.repetition {
@@ -79,7 +80,7 @@ fn advance(t: Slot) -> Slot
 // Stays: (d) what is asked is what `pick` has found of the circuit: as a type this is `serve(sender, Place::new(circuit))` at each call, taken apart again here.
 #[tactic(auto, unfolding(crate::specs::Picking::served, offering::specs::Record::slot_at, offering::specs::Record::no_slot))]
 pub fn serve(sender: &mut Sender, circuit: usize)
-    requires { (circuit < 4) × (slot_in_range (slot_at sender.old circuit) ≡ true) × (pending (slot_at sender.old circuit) ≡ true) }
+    requires { (circuit < 4) × (slot_in_range longest_long (slot_at sender.old circuit) ≡ true) × (pending (slot_at sender.old circuit) ≡ true) }
     ensures { sender.new ≡ served sender.old circuit }
 {
     sender.slots[circuit] = advance(sender.slots[circuit]);

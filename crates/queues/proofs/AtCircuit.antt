@@ -13,7 +13,7 @@ use Rattle.bits.proofs.Tests.{or_left, or_right}
 use Rattle.packet.specs.declared.Circuit.{Circuit}
 use Rattle.packet.specs.Circuits.{alike, two_alike, no_circuit}
 use Rattle.packet.specs.Lists.{any_of, those}
-use Rattle.packet.specs.Messages.{longest, packets}
+use Rattle.packet.specs.Messages.{longest_long, packets}
 use Rattle.packet.proofs.CircuitLists.{alike_is}
 use Rattle.sender.specs.Blocks.{in_force}
 use Rattle.queues.specs.Queues.{Copy, Queue, Queues, fresh_queue, fresh_queues, queue_at, queue_for, Message, message_copies, message_for, offered, offer_queues, behind, serve_queues, pick_queue, ruled_queues, Placed, taken_none, and_taken, take_up_to, copies_in_queues, take_frames}
@@ -164,7 +164,7 @@ joined waiting now later placed more waits final e f =
 unfoldable pub Offered : Circuit → ℕ → List Message → Type 0
 Offered k n [] = Unit {0}
 Offered k n (m ∷ ms) =
-    (m.circuit ≡ k) × (m.first ≡ n) × (m.priority ≤ 3) × (length m.text ≤ longest) × Offered k (n + packets (length m.text)) ms
+    (m.circuit ≡ k) × (m.first ≡ n) × (m.priority ≤ 3) × (length m.text ≤ longest_long) × Offered k (n + packets (length m.text)) ms
 
 module _ (k : Circuit) where
   -- from queues q to queues r messages were sent and frames placed
@@ -239,7 +239,7 @@ module _ (k : Circuit) where
       (at_take_up_to n (serve_queues q d) next enable u (apart_after q [] _ (serve_queues q d) now apart)))
 
   -- a message sent at a number that is listed
-  at_offer : (q : Queues) (d priority repetition : ℕ) (message : List ℕ) → Apart q → d < length q.queues → priority ≤ 3 → length message ≤ longest
+  at_offer : (q : Queues) (d priority repetition : ℕ) (message : List ℕ) → Apart q → d < length q.queues → priority ≤ 3 → length message ≤ longest_long
       → AtCircuit q (message_for (queue_at q d) priority repetition message ∷ []) [] (offer_queues q d priority repetition message)
   unfolding Apart offer_queues queue_at offered message_for messages_at those copies_sent placed_at Offered
   at_offer q d priority repetition message apart there few short =

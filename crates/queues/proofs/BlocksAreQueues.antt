@@ -6,19 +6,20 @@ use mathlib.Core.List.{List, [], ◌∷◌, ◌++◌, map, map-append}
 use mathlib.Core.Path.{◌≡◌, refl, sym, ap, ap₂, ◌∙◌}
 use borrow.Author.Tests.{eqb-true}
 use Rattle.packet.specs.Circuits.{circuits_of, list_refusal}
+use Rattle.packet.specs.Stores.{Stores}
 use Rattle.offering.specs.declared.Sender.{Sender}
 use Rattle.sender.specs.Blocks.{block_of, System, system_packets, enable_bits, block_packets, block_bits, block_refusal}
 use Rattle.sender.proofs.InForce.{in_force_at_most_15}
 use Rattle.sender.proofs.UsedAtMostU.{take-buffer_after_block}
 use Rattle.queues.specs.Queues.{Queues, fresh_queues}
 use Rattle.queues.specs.Effects.{no_effect, queues_after_effect, TakenBlock, bits_of_block, taken_by, blocks_taken}
-use Rattle.queues.specs.Calls.{Call, offer, block, End, fresh_end, accepted, after_call, effect, effect_of, effects, made, blocks_made}
+use Rattle.queues.specs.Calls.{Call, offer, offer_long, block, End, fresh_end, accepted, after_call, effect, effect_of, effects, made, blocks_made}
 use Rattle.queues.specs.Stands.{Stands}
 use Rattle.queues.proofs.StandsBlock.{stands_block}
 use Rattle.queues.proofs.StandsCalls.{stands_fresh, stands_call}
 
 -- the block of one call
-block-taken : (s : Sender) (store : List ℕ) (q : Queues) (n u : ℕ) (buffer : List ℕ) (y : System) → Stands s store q → block_refusal s store buffer n u y ≡ 0
+block-taken : (s : Sender) (store : Stores) (q : Queues) (n u : ℕ) (buffer : List ℕ) (y : System) → Stands s store q → block_refusal s store buffer n u y ≡ 0
     → block_bits s store n u (system_packets y) (enable_bits y) ∷ [] ≡ map bits_of_block (taken_by q (effect (block n u buffer y)))
 unfolding block_bits block_packets taken_by effect bits_of_block
 block-taken s store q n u buffer y h e =
@@ -28,6 +29,7 @@ made-accepted : (call : Call) (e : End) (q : Queues) → Stands e.sender e.store
     → made e call ≡ map bits_of_block (taken_by q (effect call))
 unfolding made taken_by accepted effect
 made-accepted (offer c priority repetition message) e q h a = refl
+made-accepted (offer_long priority repetition message) e q h a = refl
 made-accepted (block n u buffer y) e q h a =
     let z : block_refusal e.sender e.store buffer n u y ≡ 0 = eqb-true (block_refusal e.sender e.store buffer n u y) 0 a in
     ap (λ bits. bits ∷ []) (take-buffer_after_block e.sender e.store buffer n u y z)
@@ -67,7 +69,7 @@ blocks_made-blocks_taken : (calls : List Call) (e : End) (q : Queues) → Stands
 unfolding blocks_made
 blocks_made-blocks_taken = told_calls bits_of_block made made-accepted blocks_made (λ e. refl) (λ e call calls. refl)
 
-pub blocks_are_queues : (bytes store : List ℕ) (calls : List Call) → list_refusal bytes ≡ 0
+pub blocks_are_queues : (bytes : List ℕ) (store : Stores) (calls : List Call) → list_refusal bytes ≡ 0
     → blocks_made (fresh_end bytes store) calls
     ≡ map bits_of_block (blocks_taken (fresh_queues (circuits_of bytes)) (effects (fresh_end bytes store) calls))
 blocks_are_queues bytes store calls e =

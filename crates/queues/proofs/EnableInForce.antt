@@ -5,18 +5,19 @@ use mathlib.Core.List.{List, [], ◌∷◌, ◌++◌}
 use mathlib.Core.Path.{◌≡◌, refl, sym, ap, ◌∙◌}
 use lib.ListN.{length}
 use lib.Dec.{eqb}
+use Rattle.packet.specs.Stores.{Stores}
 use Rattle.offering.specs.declared.Sender.{Sender}
 use Rattle.offering.specs.Record.{fresh}
-use Rattle.offering.specs.Offering.{offer_refusal, offered_sender, sender_after_offer}
+use Rattle.offering.specs.Offering.{offer_refusal, long_refusal, sender_after_long, offered_sender, sender_after_offer}
 use Rattle.picking.specs.Picking.{pick, served}
 use Rattle.writing.specs.NextFrame.{next_frame}
 use Rattle.sender.specs.Blocks.{Filled, full, and_then, fill, fill_up, System, system_packets, enable_bits, in_force, ruled, block_filled, block_refusal, sender_after_block}
 use Rattle.sender.proofs.Filling.{placing_cases}
-use Rattle.queues.specs.Calls.{Call, offer, block, End, fresh_end, accepted, after_call, after_calls}
+use Rattle.queues.specs.Calls.{Call, offer, offer_long, block, End, fresh_end, accepted, after_call, after_calls}
 use Rattle.queues.specs.EnableBits.{enable_asked, enables_sent, last_or, enable_after, EnableInForce}
 
 -- filling leaves them
-fill-enable : (n : ℕ) (s : Sender) (store : List ℕ) (at enable u : ℕ) → (fill n s store at enable u).sender.enable ≡ s.enable
+fill-enable : (n : ℕ) (s : Sender) (store : Stores) (at enable u : ℕ) → (fill n s store at enable u).sender.enable ≡ s.enable
 unfolding fill full and_then served
 fill-enable zero s store at enable u = refl
 fill-enable (suc n) s store at enable u =
@@ -34,10 +35,15 @@ in_force-last_or held y = go y.wanted refl
 
 -- an accepted call, and a refused one
 pub enable_call : (call : Call) (e : End) → (after_call e call).sender.enable ≡ last_or e.sender.enable (cond (accepted e call) (enable_asked call) [])
-unfolding after_call accepted enable_asked sender_after_offer offered_sender ruled block_filled fill_up sender_after_block last_or
+unfolding after_call accepted enable_asked sender_after_offer sender_after_long offered_sender ruled block_filled fill_up sender_after_block last_or
 enable_call (offer c priority repetition message) e = go (eqb (offer_refusal e.sender e.store c priority repetition message) 0)
   where
     go : (b : Bool) → (cond b (offered_sender e.sender c priority repetition message) e.sender).enable ≡ last_or e.sender.enable (cond b [] [])
+    go true = refl
+    go false = refl
+enable_call (offer_long priority repetition message) e = go (eqb (long_refusal e.sender e.store priority repetition message) 0)
+  where
+    go : (b : Bool) → (cond b (offered_sender e.sender 0 priority repetition message) e.sender).enable ≡ last_or e.sender.enable (cond b [] [])
     go true = refl
     go false = refl
 enable_call (block n u buffer y) e = go (eqb (block_refusal e.sender e.store buffer n u y) 0)

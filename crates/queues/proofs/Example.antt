@@ -14,9 +14,9 @@ use Rattle.packet.specs.Circuits.{circuits_of, wrong_length, address_ff, wrong_e
 use Rattle.packet.specs.Messages.{longest, header, headed, segment, packets, link_of}
 use Rattle.packet.specs.Packets.{control, extension_of, packet_of, system_packet}
 use Rattle.packet.specs.Lists.{any_of, those}
-use Rattle.packet.specs.Stores.{region}
-use Rattle.offering.specs.Record.{store_length, fresh_slot, fresh, slot_at, pending, message_at, slot_in_range, slots_in_range, in_range}
-use Rattle.offering.specs.Offering.{offer_refusal, offered_slot, offered_sender, offered_store, sender_after_offer, store_after_offer}
+use Rattle.packet.specs.Stores.{region, store_alone, takes_long, longest_at, long_short}
+use Rattle.offering.specs.Record.{store_length, fresh_slot, fresh, slot_at, pending, message_of, message_at, slot_in_range, slots_in_range, in_range}
+use Rattle.offering.specs.Offering.{offer_refusal, offered_slot, offered_sender, offered_stores, sender_after_offer, stores_after_offer}
 use Rattle.picking.specs.Picking.{enabled, waits_at, going_round, first_waiting, or_else, pick_from, pick, advanced, served, copies_waiting}
 use Rattle.writing.specs.PacketParts.{packet_at}
 use Rattle.writing.specs.NextFrame.{next_packet, next_frame}
@@ -55,13 +55,13 @@ second =
 expected : TakenBlock
 expected = record { size = 256; before = []; frames = second ∷ second ∷ first ∷ [] }
 
-taken_example : blocks_taken (fresh_queues (circuits_of list)) (effects (fresh_end list (replicate 16384 0)) calls) ≡ expected ∷ []
+taken_example : blocks_taken (fresh_queues (circuits_of list)) (effects (fresh_end list (store_alone (replicate 16384 0))) calls) ≡ expected ∷ []
 unfolding list nothing_wanted calls first second expected
     odd low_bits byte_bits bits_of xor poly divided fcs_bit fcs_run preset complement fcs_of low_first stuff_from stuff flag with_fcs frame
     circuits_of any_of wrong_length address_ff wrong_extension alike two_alike circuits_refusal list_refusal listed no_circuit record_of listing
     longest header headed segment packets link_of control extension_of packet_of
-    region store_length fresh_slot fresh slot_at pending slot_in_range slots_in_range in_range
-    offer_refusal offered_slot offered_sender offered_store sender_after_offer store_after_offer enabled going_round or_else
+    region takes_long longest_at long_short store_length fresh_slot fresh slot_at pending slot_in_range slots_in_range in_range
+    offer_refusal offered_slot offered_sender offered_stores sender_after_offer stores_after_offer enabled going_round or_else
     frames_bits flagged_frames system_packets enable_bits in_force wrong_size short_buffer wrong_system block_refusal
     fresh_queue fresh_queues queue_at copy_of copies_from message_copies message_for offered offer_queues
     front_has first_queue pick_queue_from pick_queue behind_first behind serve_queues ruled_queues
@@ -70,9 +70,9 @@ unfolding list nothing_wanted calls first second expected
 taken_example = refl
 
 -- and the bits in the buffer
-made_example : blocks_made (fresh_end list (replicate 16384 0)) calls ≡ map bits_of_block (expected ∷ [])
+made_example : blocks_made (fresh_end list (store_alone (replicate 16384 0))) calls ≡ map bits_of_block (expected ∷ [])
 unfolding list circuits_of any_of wrong_length address_ff wrong_extension alike two_alike circuits_refusal list_refusal
-made_example = blocks_are_queues list (replicate 16384 0) calls refl ∙ ap (map bits_of_block) taken_example
+made_example = blocks_are_queues list (store_alone (replicate 16384 0)) calls refl ∙ ap (map bits_of_block) taken_example
 
 -- enable bits that hold over: a system packet with only priority 1 enabled, blocks without one, which are lent other bits, a refused one, and one with
 -- all enabled
@@ -103,15 +103,15 @@ held_blocks =
     []
 
 -- the blocks, the bits in force behind the refused one, and what the first places under its own
-held_example : (blocks_taken (fresh_queues (circuits_of list)) (effects (fresh_end list (replicate 16384 0)) held_calls) ≡ held_blocks)
-    × (enable_after list (replicate 16384 0) (take 6 held_calls) ≡ 2)
-    × (packets_placed list (replicate 16384 0) (take 2 held_calls) (block 256 256 (replicate 32 0) (wanting 2)) ≡ first.copy.packet ∷ [])
+held_example : (blocks_taken (fresh_queues (circuits_of list)) (effects (fresh_end list (store_alone (replicate 16384 0))) held_calls) ≡ held_blocks)
+    × (enable_after list (store_alone (replicate 16384 0)) (take 6 held_calls) ≡ 2)
+    × (packets_placed list (store_alone (replicate 16384 0)) (take 2 held_calls) (block 256 256 (replicate 32 0) (wanting 2)) ≡ first.copy.packet ∷ [])
 unfolding list not_wanting wanting held_calls held_blocks first second
     odd low_bits byte_bits bits_of xor poly divided fcs_bit fcs_run preset complement fcs_of low_first stuff_from stuff flag with_fcs frame
     circuits_of any_of wrong_length address_ff wrong_extension alike two_alike circuits_refusal list_refusal listed no_circuit record_of listing
     longest header headed segment packets link_of control extension_of packet_of system_packet
-    region store_length fresh_slot fresh slot_at pending message_at slot_in_range slots_in_range in_range
-    offer_refusal offered_slot offered_sender offered_store sender_after_offer store_after_offer enabled going_round or_else
+    region takes_long longest_at long_short store_length fresh_slot fresh slot_at pending message_of message_at slot_in_range slots_in_range in_range
+    offer_refusal offered_slot offered_sender offered_stores sender_after_offer stores_after_offer enabled going_round or_else
     waits_at first_waiting pick_from pick advanced served copies_waiting packet_at next_packet next_frame
     frames_bits flagged_frames full and_then placing fill copies_in waiting fill_up system_packets enable_bits in_force ruled block_filled
     wrong_size short_buffer wrong_system block_refusal sender_after_block
@@ -136,12 +136,12 @@ left_calls =
 -- the packets still to go at numbers 0, 1 and 2, the last of which is not listed, after the first n calls: in the queues and in the record
 left_in_queues : ℕ → List ℕ
 left_in_queues n =
-    let q = queues_after_calls list (replicate 16384 0) (take n left_calls) in
+    let q = queues_after_calls list (store_alone (replicate 16384 0)) (take n left_calls) in
     length (each_once (queue_at q 0).copies) ∷ length (each_once (queue_at q 1).copies) ∷ length (each_once (queue_at q 2).copies) ∷ []
 
 left_in_record : ℕ → List ℕ
 left_in_record n =
-    let s = (after_calls (fresh_end list (replicate 16384 0)) (take n left_calls)).sender in
+    let s = (after_calls (fresh_end list (store_alone (replicate 16384 0))) (take n left_calls)).sender in
     (slot_at s 0).left ∷ (slot_at s 1).left ∷ (slot_at s 2).left ∷ []
 
 left_expected : List (List ℕ)
@@ -159,8 +159,8 @@ unfolding list nothing_wanted left_calls left_in_queues left_in_record left_expe
     odd low_bits byte_bits bits_of xor poly divided fcs_bit fcs_run preset complement fcs_of low_first stuff_from stuff flag with_fcs frame
     circuits_of any_of wrong_length address_ff wrong_extension alike two_alike circuits_refusal list_refusal listed no_circuit record_of listing
     longest header headed segment packets link_of control extension_of packet_of
-    region store_length fresh_slot fresh slot_at pending message_at slot_in_range slots_in_range in_range
-    offer_refusal offered_slot offered_sender offered_store sender_after_offer store_after_offer enabled going_round or_else
+    region takes_long longest_at long_short store_length fresh_slot fresh slot_at pending message_of message_at slot_in_range slots_in_range in_range
+    offer_refusal offered_slot offered_sender offered_stores sender_after_offer stores_after_offer enabled going_round or_else
     waits_at first_waiting pick_from pick advanced served copies_waiting packet_at next_packet next_frame
     frames_bits flagged_frames full and_then placing fill copies_in waiting fill_up system_packets enable_bits in_force ruled block_filled
     wrong_size short_buffer wrong_system block_refusal sender_after_block

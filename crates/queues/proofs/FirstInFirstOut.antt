@@ -6,6 +6,7 @@ use mathlib.Core.Path.{◌≡◌}
 use Rattle.packet.specs.declared.Circuit.{Circuit}
 use Rattle.packet.specs.Circuits.{circuits_of, circuits_refusal, list_refusal}
 use Rattle.packet.proofs.CircuitLists.{circuits_refusal-zero, listed-listing, listing-refusal}
+use Rattle.packet.specs.Stores.{Stores}
 use Rattle.queues.specs.Queues.{Queues, fresh_queue, fresh_queues, queue_for}
 use Rattle.queues.specs.Effects.{Effect, queues_after, messages_sent, blocks_taken}
 use Rattle.queues.specs.Calls.{Call, fresh_end, effects}
@@ -14,7 +15,7 @@ use Rattle.queues.proofs.StandsCalls.{stands_fresh, right_calls}
 use Rattle.queues.proofs.AtCircuit.{AtCircuit, apart_fresh, queue_for-fresh, at_effects}
 
 -- calls of a fresh sender, at any circuit
-module _ (bytes store : List ℕ) (calls : List Call) (k : Circuit) (listed : list_refusal bytes ≡ 0) where
+module _ (bytes : List ℕ) (store : Stores) (calls : List Call) (k : Circuit) (listed : list_refusal bytes ≡ 0) where
   -- the queues at first, and what the calls do to them
   abbrev first : Queues
   first = fresh_queues (circuits_of bytes)

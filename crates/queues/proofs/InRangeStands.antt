@@ -1,24 +1,24 @@
--- A record in range stands for queues: at each circuit the copies that its slot tells wait, of the message in its region, and as many packets were placed
+-- A record in range stands for queues: at each circuit the copies that its slot tells wait, of its message where that lies, and as many packets were placed
 -- before as the index says.
-use Prim.Native.Nat.{ℕ, suc, ◌+◌, ◌-◌, ◌*◌, ◌≤◌, ◌<◌}
+use Prim.Native.Nat.{ℕ, suc, ◌+◌, ◌-◌, ◌<◌}
 use native.Mathlib.Omega.{arith}
 use native.Mathlib.Nat.{zero-add}
 use mathlib.Core.Bool.{true}
-use mathlib.Core.List.{List, map}
+use mathlib.Core.List.{map}
 use mathlib.Core.Path.{◌≡◌, refl, ◌∙◌}
-use lib.ListN.{length, drop, get_or, length-drop, length-map}
-use lib.Seq.{length-take-le}
+use lib.ListN.{drop, get_or, length-map}
 use Rattle.packet.specs.Circuits.{no_circuit}
-use Rattle.packet.specs.Messages.{longest, packets}
-use Rattle.packet.specs.Stores.{region}
+use Rattle.packet.specs.Messages.{packets}
+use Rattle.packet.specs.Stores.{Stores}
 use Rattle.offering.specs.declared.Sender.{Sender}
-use Rattle.offering.specs.Record.{store_length, slot_at, message_at, in_range}
-use Rattle.offering.proofs.Ranges.{in_range_facts, slot_in_range_facts, slot_in_range-slot_at}
+use Rattle.offering.specs.Record.{slot_at, message_at, in_range, LongEnough}
+use Rattle.offering.proofs.Ranges.{slot_in_range_facts, slot_in_range-slot_at}
+use Rattle.writing.proofs.FrameLength.{length-message_at}
 use Rattle.queues.specs.Queues.{Queue, fresh_queue, queue_at, copies_from}
 use Rattle.queues.specs.Stands.{StandsFor, InRangeStands}
 use Rattle.queues.proofs.Numbers.{numbers_from, length_numbers_from, get_or_numbers_from}
 
-module _ (s : Sender) (store : List ℕ) where
+module _ (s : Sender) (store : Stores) where
   -- the queue that is told of a number
   told : ℕ → Queue
   told c =
@@ -31,22 +31,15 @@ module _ (s : Sender) (store : List ℕ) where
         sent = t.index + n;
       }
 
-  -- a message that is no longer than its region lies in the store
-  length-message_at : (c : ℕ) → store_length ≤ length store → c < 4 → (slot_at s c).length ≤ longest → length (message_at s store c) ≡ (slot_at s c).length
-  unfolding message_at store_length region longest
-  length-message_at c long four short =
-      let room : (slot_at s c).length ≤ length (drop (region * c) store) = rw length-drop (omega arith) in
-      length-take-le (slot_at s c).length (drop (region * c) store) room
-
-  stands_told : store_length ≤ length store → in_range s ≡ true → (c : ℕ) → c < s.circuits.count
+  stands_told : LongEnough store → in_range store.given s ≡ true → (c : ℕ) → c < s.circuits.count
       → StandsFor (get_or s.circuits.list c no_circuit) (slot_at s c) (message_at s store c) (told c)
   unfolding told
   stands_told long range c listed =
-      let f = slot_in_range_facts (slot_at s c) (slot_in_range-slot_at s c range listed) in
+      let f = slot_in_range_facts (slot_at s c) (slot_in_range-slot_at _ s c range listed) in
       record {
         done = (slot_at s c).index;
         circuit = refl;
-        message = length-message_at c long (omega (arith, (in_range_facts s range).count)) f.short;
+        message = length-message_at s store c range listed long;
         index = omega (arith, f.index);
         sent = refl;
         copies = refl;

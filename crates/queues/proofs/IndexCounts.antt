@@ -13,6 +13,7 @@ use Rattle.packet.specs.Circuits.{circuits_of, list_refusal}
 use Rattle.packet.specs.Messages.{packets}
 use Rattle.packet.specs.Packets.{control, packet_of}
 use Rattle.parsing.specs.Packets.{control_in, index}
+use Rattle.packet.specs.Stores.{Stores}
 use Rattle.queues.specs.Queues.{Copy, fresh_queue, fresh_queues, copy_of, copies_from, Message, message_copies}
 use Rattle.queues.specs.Effects.{messages_sent}
 use Rattle.queues.specs.Calls.{Call, fresh_end, effects}
@@ -99,14 +100,14 @@ copies_sent-packets (m ∷ ms) =
 -- ---- calls of a fresh sender
 
 -- the messages sent at a circuit are offered there from packet 0 on
-pub offered_calls : (bytes store : List ℕ) (calls : List Call) (k : Circuit) → list_refusal bytes ≡ 0
+pub offered_calls : (bytes : List ℕ) (store : Stores) (calls : List Call) (k : Circuit) → list_refusal bytes ≡ 0
     → Offered k 0 (messages_at k (messages_sent (fresh_queues (circuits_of bytes)) (effects (fresh_end bytes store) calls)))
 unfolding Offered fresh_queue
 offered_calls bytes store calls k e =
     rw (queue_for-fresh (circuits_of bytes) k, append-nil) at ((at_calls bytes store calls k e).counted [] tt)
 
 -- "from 0 in a fresh sender, running on from message to message"
-pub index-counts : (bytes store : List ℕ) (calls : List Call) (k : Circuit) → list_refusal bytes ≡ 0
+pub index-counts : (bytes : List ℕ) (store : Stores) (calls : List Call) (k : Circuit) → list_refusal bytes ≡ 0
     → Counted 0 (copies_sent (messages_at k (messages_sent (fresh_queues (circuits_of bytes)) (effects (fresh_end bytes store) calls))))
 index-counts bytes store calls k e =
     let ms : List Message = messages_at k (messages_sent (fresh_queues (circuits_of bytes)) (effects (fresh_end bytes store) calls)) in
@@ -158,7 +159,7 @@ copies_of-alike (p ∷ ps) n a b h i j e =
     go later (inr i) (inr j) = later i j e
 
 -- "that many copies after the original, all alike": two that calls send at a circuit with the same number are the same, byte for byte
-pub copies_alike : (bytes store : List ℕ) (calls : List Call) (k : Circuit) → list_refusal bytes ≡ 0 → (a b : Copy)
+pub copies_alike : (bytes : List ℕ) (store : Stores) (calls : List Call) (k : Circuit) → list_refusal bytes ≡ 0 → (a b : Copy)
     → Memᴰ a (copies_sent (messages_at k (messages_sent (fresh_queues (circuits_of bytes)) (effects (fresh_end bytes store) calls))))
     → Memᴰ b (copies_sent (messages_at k (messages_sent (fresh_queues (circuits_of bytes)) (effects (fresh_end bytes store) calls))))
     → a.number ≡ b.number → a ≡ b

@@ -13,20 +13,21 @@ use Rattle.packet.specs.declared.Circuit.{Circuit}
 use Rattle.packet.specs.declared.Circuits.{Circuits}
 use Rattle.packet.specs.Circuits.{listing, no_circuit}
 use Rattle.packet.specs.Lists.{those}
-use Rattle.packet.specs.Messages.{packets}
+use Rattle.packet.specs.Messages.{longest_long, packets}
+use Rattle.packet.specs.Stores.{Stores}
 use Rattle.offering.specs.declared.Slot.{Slot}
 use Rattle.offering.specs.declared.Sender.{Sender}
 use Rattle.offering.specs.Record.{fresh_slot, fresh, no_slot, slot_at, slot_in_range}
-use Rattle.offering.specs.Offering.{offer_refusal, offered_sender, sender_after_offer}
-use Rattle.offering.proofs.Ranges.{slot_in_range_facts, slot_in_range-slot_at}
-use Rattle.offering.proofs.Offers.{offer_refusal-zero}
+use Rattle.offering.specs.Offering.{offer_refusal, long_refusal, sender_after_long, offered_sender, sender_after_offer}
+use Rattle.offering.proofs.Ranges.{slot_in_range_facts, slot_in_range-wide}
+use Rattle.offering.proofs.Offers.{offer_refusal-zero, long_refusal-zero}
 use Rattle.picking.specs.Picking.{pick, advanced, served}
 use Rattle.picking.proofs.PickingLaws.{pick_waits}
 use Rattle.writing.specs.NextFrame.{next_frame}
 use Rattle.sender.specs.Blocks.{Filled, full, and_then, fill, fill_up, system_packets, enable_bits, ruled, block_filled, block_refusal, sender_after_block}
 use Rattle.sender.proofs.Filling.{placing_cases}
 use Rattle.queues.specs.Queues.{Copy, Queue, Queues, fresh_queue, queue_at, copy_of, copies_from}
-use Rattle.queues.specs.Calls.{Call, offer, block, End, fresh_end, after_call, after_calls, queues_after_calls}
+use Rattle.queues.specs.Calls.{Call, offer, offer_long, block, End, fresh_end, after_call, after_calls, queues_after_calls}
 use Rattle.queues.specs.Stands.{StandsFor, Stands}
 use Rattle.queues.specs.Sent.{each_once}
 use Rattle.queues.specs.PacketsLeft.{LeftCounts, LeftStands}
@@ -63,7 +64,7 @@ each_once-waiting k priority text copy repetition number i (suc n) h =
     ∙ ap (λ l. number ∷ l) later
 
 -- a slot in range that stands for a queue
-StandsFor_left : (k : Circuit) (t : Slot) (text : List ℕ) (q : Queue) → StandsFor k t text q → slot_in_range t ≡ true
+StandsFor_left : (k : Circuit) (t : Slot) (text : List ℕ) (q : Queue) → StandsFor k t text q → slot_in_range longest_long t ≡ true
     → t.left ≡ length (each_once q.copies)
 StandsFor_left k t text q h range =
     let f = slot_in_range_facts t range in
@@ -77,7 +78,7 @@ StandsFor_left k t text q h range =
 pub left-stands : LeftStands
 unfolding LeftStands
 left-stands s store q h c listed =
-    StandsFor_left _ (slot_at s c) _ (queue_at q c) (h.each c listed) (slot_in_range-slot_at s c h.range listed)
+    StandsFor_left _ (slot_at s c) _ (queue_at q c) (h.each c listed) (slot_in_range-wide _ s c h.range listed)
 
 -- ---- a number that is not listed
 
@@ -95,7 +96,7 @@ module _ (c : ℕ) where
   unfolding slot_at
   kept_set s d t listed out = get_or-set_other s.slots d c t no_slot (omega arith)
 
-  kept-fill : (n : ℕ) (s : Sender) (store : List ℕ) (at enable u : ℕ) → UnlistedKept c s (fill n s store at enable u).sender
+  kept-fill : (n : ℕ) (s : Sender) (store : Stores) (at enable u : ℕ) → UnlistedKept c s (fill n s store at enable u).sender
   unfolding fill full and_then served slot_at
   kept-fill zero s store at enable u = kept_refl s
   kept-fill (suc n) s store at enable u =
@@ -109,14 +110,22 @@ module _ (c : ℕ) where
       })
 
   kept_call : (call : Call) (e : End) → UnlistedKept c e.sender (after_call e call).sender
-  unfolding after_call sender_after_offer offered_sender sender_after_block block_filled fill_up ruled slot_at
+  unfolding after_call sender_after_offer sender_after_long offered_sender sender_after_block block_filled fill_up ruled slot_at
   kept_call (offer d priority repetition message) e = go (eqb (offer_refusal e.sender e.store d priority repetition message) 0) refl
     where
       go : (b : Bool) → eqb (offer_refusal e.sender e.store d priority repetition message) 0 ≡ b
           → UnlistedKept c e.sender (cond b (offered_sender e.sender d priority repetition message) e.sender)
       go true z =
           let f = offer_refusal-zero e.sender e.store d priority repetition message (eqb-true _ 0 z) in
-          record { circuits = refl; slot = kept_set e.sender d _ f.circuit }
+          record { circuits = refl; slot = kept_set e.sender d _ f.offer.circuit }
+      go false z = kept_refl e.sender
+  kept_call (offer_long priority repetition message) e = go (eqb (long_refusal e.sender e.store priority repetition message) 0) refl
+    where
+      go : (b : Bool) → eqb (long_refusal e.sender e.store priority repetition message) 0 ≡ b
+          → UnlistedKept c e.sender (cond b (offered_sender e.sender 0 priority repetition message) e.sender)
+      go true z =
+          let f = long_refusal-zero e.sender e.store priority repetition message (eqb-true _ 0 z) in
+          record { circuits = refl; slot = kept_set e.sender 0 _ f.offer.circuit }
       go false z = kept_refl e.sender
   kept_call (block n u buffer y) e = go (eqb (block_refusal e.sender e.store buffer n u y) 0)
     where
@@ -148,7 +157,7 @@ left_fresh cs (suc (suc (suc (suc c)))) = refl
 
 -- ---- after any calls
 
-module _ (bytes store : List ℕ) (calls : List Call) where
+module _ (bytes : List ℕ) (store : Stores) (calls : List Call) where
   s : Sender
   s = (after_calls (fresh_end bytes store) calls).sender
 

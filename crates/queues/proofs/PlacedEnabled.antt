@@ -9,6 +9,7 @@ use borrow.Author.Tests.{eqb-true}
 use Rattle.packet.specs.Lists.{AllAre}
 use Rattle.packet.specs.Packets.{control, packet_of}
 use Rattle.parsing.specs.Packets.{control_in, priority}
+use Rattle.packet.specs.Stores.{Stores}
 use Rattle.offering.specs.declared.Sender.{Sender}
 use Rattle.offering.specs.Record.{slot_at, in_range}
 use Rattle.offering.proofs.Ranges.{slot_in_range_facts, slot_in_range-slot_at}
@@ -21,7 +22,7 @@ use Rattle.sender.proofs.Filling.{placing_cases}
 use Rattle.sender.proofs.InForce.{in_force_at_most_15, accepted-ruled_in_range}
 use Rattle.queues.specs.Queues.{Queues}
 use Rattle.queues.specs.Effects.{BlockAsked, no_effect, packets_taken, taken_by}
-use Rattle.queues.specs.Calls.{Call, offer, block, End, fresh_end, accepted, after_call, after_calls, effect, effect_of}
+use Rattle.queues.specs.Calls.{Call, offer, offer_long, block, End, fresh_end, accepted, after_call, after_calls, effect, effect_of}
 use Rattle.queues.specs.Sent.{frames_of}
 use Rattle.queues.specs.Stands.{Stands}
 use Rattle.queues.specs.EnableBits.{enable_asked, last_or, enable_after, EnableInForce, packets_placed, PlacedEnabled}
@@ -34,12 +35,12 @@ abbrev AllEnabled : ℕ → List (List ℕ) → Type 0
 AllEnabled enable ps = AllAre (λ (p : List ℕ). enabled enable (priority p) ≡ true) ps
 
 -- the priority in a packet's control byte is its message's
-priority-next_packet : (s : Sender) (store : List ℕ) (c : ℕ) → (slot_at s c).priority ≤ 3 → priority (next_packet s store c) ≡ (slot_at s c).priority
+priority-next_packet : (s : Sender) (store : Stores) (c : ℕ) → (slot_at s c).priority ≤ 3 → priority (next_packet s store c) ≡ (slot_at s c).priority
 unfolding next_packet packet_at packet_of control control_in priority
 priority-next_packet s store c few = omega arith
 
 -- at most n frames
-enabled-fill : (n : ℕ) (s : Sender) (store : List ℕ) (at enable u : ℕ) → in_range s ≡ true
+enabled-fill : (n : ℕ) (s : Sender) (store : Stores) (at enable u : ℕ) → in_range store.given s ≡ true
     → AllEnabled enable (placed_packets (fill n s store at enable u).frames)
 unfolding fill full and_then placed_packets AllAre
 enabled-fill zero s store at enable u range = tt
@@ -48,13 +49,13 @@ enabled-fill (suc n) s store at enable u range =
     (λ c. fill n (served s c) store (at + length (next_frame s store c)) enable u) tt
     (λ c p h.
     let f = pick_waits s enable c p in
-    let few : (slot_at s c).priority ≤ 3 = (slot_in_range_facts (slot_at s c) (slot_in_range-slot_at s c range f.count)).priority in (
+    let few : (slot_at s c).priority ≤ 3 = (slot_in_range_facts (slot_at s c) (slot_in_range-slot_at _ s c range f.count)).priority in (
       ap (enabled enable) (priority-next_packet s store c few) ∙ f.enabled,
-      enabled-fill n (served s c) store (at + length (next_frame s store c)) enable u (served_in_range s enable c range p),
+      enabled-fill n (served s c) store (at + length (next_frame s store c)) enable u (served_in_range _ s enable c range p),
     ))
 
 -- a block, under the enable bits in force in it
-enabled-block : (s : Sender) (store : List ℕ) (u : ℕ) (y : System) → in_range (ruled s (enable_bits y)) ≡ true
+enabled-block : (s : Sender) (store : Stores) (u : ℕ) (y : System) → in_range store.given (ruled s (enable_bits y)) ≡ true
     → AllEnabled (in_force s.enable (enable_bits y)) (placed_packets (block_filled s store u (system_packets y) (enable_bits y)).frames)
 unfolding block_filled fill_up ruled
 enabled-block s store u y range = enabled-fill _ (ruled s (enable_bits y)) store _ _ u range
@@ -64,6 +65,7 @@ enabled-accepted : (call : Call) (e : End) (q : Queues) → Stands e.sender e.st
     → AllEnabled (last_or e.sender.enable (enable_asked call)) (packets_taken (frames_of (taken_by q (effect call))))
 unfolding accepted effect enable_asked taken_by frames_of packets_taken AllAre
 enabled-accepted (offer c priority repetition message) e q h a = tt
+enabled-accepted (offer_long priority repetition message) e q h a = tt
 enabled-accepted (block n u buffer y) e q h a =
     let s = e.sender in
     let z : block_refusal s e.store buffer n u y ≡ 0 = eqb-true (block_refusal s e.store buffer n u y) 0 a in

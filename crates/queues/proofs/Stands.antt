@@ -12,7 +12,7 @@ use lib.Seq.{drop_at, drop-nil}
 use lib.Dec.{ltb, eqb}
 use borrow.Author.Tests.{ltb-false}
 use Rattle.packet.specs.declared.Circuit.{Circuit}
-use Rattle.packet.specs.Messages.{packets, link_of, segment}
+use Rattle.packet.specs.Messages.{longest_long, packets, link_of, segment}
 use Rattle.packet.specs.Packets.{packet_of}
 use Rattle.offering.specs.declared.Slot.{Slot}
 use Rattle.offering.specs.Record.{pending, slot_in_range}
@@ -100,7 +100,7 @@ module _ (k : Circuit) (t : Slot) (text : List ℕ) (q : Queue) (h : StandsFor k
       let none : packets t.length - t.place ≡ 0 = omega (arith, ltb-false t.place (packets t.length) e) in
       h.copies ∙ rw none (drop-nil t.copy)
 
-  pub StandsFor-pending : slot_in_range t ≡ true → pending t ≡ some_waits q.copies
+  pub StandsFor-pending : slot_in_range longest_long t ≡ true → pending t ≡ some_waits q.copies
   unfolding some_waits
   StandsFor-pending e = go (pending t) refl
     where
@@ -108,7 +108,7 @@ module _ (k : Circuit) (t : Slot) (text : List ℕ) (q : Queue) (h : StandsFor k
       go true p = rw (copies_pending (slot_pending t e p), p)
       go false p = rw (copies_none p, p)
 
-  pub StandsFor-front_has : slot_in_range t ≡ true → (priority : ℕ) → front_has priority q.copies ≡ (pending t && eqb t.priority priority)
+  pub StandsFor-front_has : slot_in_range longest_long t ≡ true → (priority : ℕ) → front_has priority q.copies ≡ (pending t && eqb t.priority priority)
   unfolding front_has first_copy copy_of
   StandsFor-front_has e priority = go (pending t) refl
     where

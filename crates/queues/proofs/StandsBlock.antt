@@ -8,6 +8,7 @@ use mathlib.Core.Path.{◌≡◌, refl, sym, ap, ap₂, subst}
 use lib.ListN.{length, take, get_or}
 use lib.Dec.{leb}
 use Rattle.packet.specs.Circuits.{no_circuit}
+use Rattle.packet.specs.Stores.{Stores}
 use Rattle.offering.specs.declared.Slot.{Slot}
 use Rattle.offering.specs.declared.Sender.{Sender}
 use Rattle.offering.specs.Record.{no_slot, slot_at, message_at}
@@ -23,11 +24,11 @@ use Rattle.queues.proofs.Stands.{StandsFor-copies_waiting}
 use Rattle.queues.proofs.StandsPick.{stands_pick, stands_first, stands_serve}
 
 -- what is filled is what is taken
-pub record FilledAs (store : List ℕ) (f : Filled) (t : Taken) : Type 0 where
+pub record FilledAs (store : Stores) (f : Filled) (t : Taken) : Type 0 where
   pub packets : placed_packets f.frames ≡ packets_taken t.frames
   pub stands : Stands f.sender store t.queues
 
-module _ (s : Sender) (store : List ℕ) (q : Queues) (h : Stands s store q) where
+module _ (s : Sender) (store : Stores) (q : Queues) (h : Stands s store q) where
   FilledAs-none : FilledAs store (full s) (taken_none q)
   unfolding full taken_none placed_packets packets_taken
   FilledAs-none = record { packets = refl; stands = h }
@@ -52,7 +53,7 @@ module _ (s : Sender) (store : List ℕ) (q : Queues) (h : Stands s store q) whe
           (FilledAs_more c _ (f c) (g c (at + length (next_frame s store c))) (later c e) (leb (at + length (next_frame s store c)) u))
 
 -- at most n frames
-FilledAs-fill : (n : ℕ) (s : Sender) (store : List ℕ) (q : Queues) (at enable u : ℕ) → Stands s store q
+FilledAs-fill : (n : ℕ) (s : Sender) (store : Stores) (q : Queues) (at enable u : ℕ) → Stands s store q
     → FilledAs store (fill n s store at enable u) (take_up_to n q at enable u)
 unfolding fill take_up_to
 FilledAs-fill zero s store q at enable u h = FilledAs-none s store q h
@@ -71,7 +72,7 @@ copies_in-copies_in_queues (q ∷ qs) [] fits same = absurd (omega arith)
 copies_in-copies_in_queues (q ∷ qs) (t ∷ ts) fits same =
     ap₂ ◌+◌ (sym (same 0 (omega arith))) (copies_in-copies_in_queues qs ts (omega arith) (λ i e. same (suc i) (omega arith)))
 
-waiting-copies_in_queues : (s : Sender) (store : List ℕ) (q : Queues) → Stands s store q → waiting s ≡ copies_in_queues q.queues
+waiting-copies_in_queues : (s : Sender) (store : Stores) (q : Queues) → Stands s store q → waiting s ≡ copies_in_queues q.queues
 unfolding waiting slot_at queue_at
 waiting-copies_in_queues s store q h =
     let fits : length q.queues ≤ length s.slots = omega (arith, h.count, h.slots, (in_range_facts s h.range).count) in
@@ -82,7 +83,7 @@ waiting-copies_in_queues s store q h =
     StandsFor-copies_waiting (get_or s.circuits.list i no_circuit) (slot_at s i) (message_at s store i) (queue_at q i) (h.each i listed)))
 
 -- frames from bit `at` on, under the enable bits in force
-stands_fill_up : (s : Sender) (store : List ℕ) (q : Queues) (at u : ℕ) → Stands s store q
+stands_fill_up : (s : Sender) (store : Stores) (q : Queues) (at u : ℕ) → Stands s store q
     → FilledAs store (fill_up s store at s.enable u) (take_frames q at q.enable u)
 unfolding fill_up take_frames
 stands_fill_up s store q at u h =
@@ -90,12 +91,12 @@ stands_fill_up s store q at u h =
     (rw (waiting-copies_in_queues s store q h) (FilledAs-fill (copies_in_queues q.queues) s store q at s.enable u h))
 
 -- the record under the enable bits of a block, where they are at most 15, stands for the queues under them
-stands_ruled : (s : Sender) (store : List ℕ) (q : Queues) (new_enable : Option ℕ) → Stands s store q → in_force s.enable new_enable ≤ 15
+stands_ruled : (s : Sender) (store : Stores) (q : Queues) (new_enable : Option ℕ) → Stands s store q → in_force s.enable new_enable ≤ 15
     → Stands (ruled s new_enable) store (ruled_queues q new_enable)
 unfolding ruled ruled_queues slot_at message_at queue_at
 stands_ruled s store q new_enable h few =
     record {
-      range = in_range-ruled s new_enable h.range few;
+      range = in_range-ruled _ s new_enable h.range few;
       places = h.places;
       slots = h.slots;
       count = h.count;
@@ -105,7 +106,7 @@ stands_ruled s store q new_enable h few =
     }
 
 -- our frames in a block are the copies that the block rule takes from the queues
-pub stands_block : (s : Sender) (store : List ℕ) (q : Queues) (t : BlockAsked) → Stands s store q → in_force s.enable t.new_enable ≤ 15
+pub stands_block : (s : Sender) (store : Stores) (q : Queues) (t : BlockAsked) → Stands s store q → in_force s.enable t.new_enable ≤ 15
     → FilledAs store (block_filled s store t.usable t.before t.new_enable) (taken_for q t)
 unfolding block_filled taken_for
 stands_block s store q t h few =

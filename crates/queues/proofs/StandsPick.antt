@@ -1,21 +1,21 @@
 -- Record and store stand for queues: then both sides pick the same circuit, its first copy is the record's next packet, and the record after
 -- serving it stands for the queues without that copy.
-use Prim.Native.Nat.{ℕ, ◌*◌, ◌≤◌, ◌<◌}
+use Prim.Native.Nat.{ℕ, ◌≤◌, ◌<◌}
 use native.Mathlib.Omega.{arith}
 use mathlib.Core.Bool.{Bool, true, false}
 use mathlib.Core.List.{List, [], ◌∷◌}
 use Rattle.std.proofs.Common.{Some}
 use mathlib.Core.Path.{◌≡◌, refl, sym, ap, ◌∙◌}
-use lib.ListN.{length, take, drop, get_or, set, length-set, get_or-eq_default}
+use lib.ListN.{length, get_or, set, length-set, get_or-eq_default}
 use lib.Seq.{get_or-set_same, get_or-set_other}
 use lib.Dec.{ltb, eqb}
 use borrow.Author.Tests.{ltb-true, ltb-false, eqb-true, eqb-false}
 use Rattle.packet.specs.Circuits.{no_circuit}
-use Rattle.packet.specs.Stores.{region}
+use Rattle.packet.specs.Stores.{Stores}
 use Rattle.offering.specs.declared.Slot.{Slot}
 use Rattle.offering.specs.declared.Sender.{Sender}
-use Rattle.offering.specs.Record.{no_slot, slot_at, message_at, pending, in_range}
-use Rattle.offering.proofs.Ranges.{in_range_facts, slot_in_range-slot_at}
+use Rattle.offering.specs.Record.{no_slot, slot_at, message_of, message_at, pending, in_range}
+use Rattle.offering.proofs.Ranges.{in_range_facts, slot_in_range-wide}
 use Rattle.picking.specs.Picking.{waits_at, going_round, first_waiting, pick_from, pick, advanced, served}
 use Rattle.picking.proofs.PickingLaws.{Picked, SlotPending, slot_pending, pick_waits, served_in_range}
 use Rattle.writing.specs.PacketParts.{packet_at}
@@ -33,12 +33,12 @@ length-advanced t = go (ltb t.copy t.repetition) refl
     go true e = rw (e, advanced)
     go false e = rw (e, advanced)
 
-module _ (s : Sender) (store : List ℕ) (q : Queues) (h : Stands s store q) where
+module _ (s : Sender) (store : Stores) (q : Queues) (h : Stands s store q) where
   -- an earlier message has a copy to place if one waits in the queue
   pub stands_pending : (c : ℕ) → c < s.circuits.count → pending (slot_at s c) ≡ some_waits (queue_at q c).copies
   stands_pending c listed =
       StandsFor-pending (get_or s.circuits.list c no_circuit) (slot_at s c) (message_at s store c) (queue_at q c) (h.each c listed)
-      (slot_in_range-slot_at s c h.range listed)
+      (slot_in_range-wide _ s c h.range listed)
 
   -- a number that is not listed has nothing to send on either side
   front_has_unlisted : (priority c : ℕ) → s.circuits.count ≤ c → front_has priority (queue_at q c).copies ≡ false
@@ -57,7 +57,7 @@ module _ (s : Sender) (store : List ℕ) (q : Queues) (h : Stands s store q) whe
           rw (e, waits_at)
           (sym
           (StandsFor-front_has (get_or s.circuits.list c no_circuit) (slot_at s c) (message_at s store c) (queue_at q c) (h.each c listed)
-          (slot_in_range-slot_at s c h.range listed) priority))
+          (slot_in_range-wide _ s c h.range listed) priority))
       go false e = rw (e, waits_at) (sym (front_has_unlisted priority c (ltb-false c s.circuits.count e)))
 
   first_waiting-first_queue : (priority : ℕ) (cs : List ℕ) → first_waiting s priority cs ≡ first_queue q priority cs
@@ -77,11 +77,11 @@ module _ (s : Sender) (store : List ℕ) (q : Queues) (h : Stands s store q) whe
   stands_pick enable = pick_from-pick_queue_from enable (3 ∷ 2 ∷ 1 ∷ 0 ∷ [])
 
   -- the record with another slot at a listed number c stands for the queues with another queue there
-  pub Stands-set : (store' : List ℕ) (c : ℕ) (t : Slot) (p : Queue) (last last' : ℕ) → last' ≡ last → c < s.circuits.count
-      → in_range (record { circuits = s.circuits; slots = set s.slots c t; last = last; enable = s.enable }) ≡ true
+  pub Stands-set : (store' : Stores) (c : ℕ) (t : Slot) (p : Queue) (last last' : ℕ) → last' ≡ last → c < s.circuits.count
+      → in_range store'.given (record { circuits = s.circuits; slots = set s.slots c t; last = last; enable = s.enable }) ≡ true
       → ((i : ℕ) → (i ≡ c → ⊥) → i < s.circuits.count
-      → take (slot_at s i).length (drop (region * i) store') ≡ message_at s store i)
-      → StandsFor (get_or s.circuits.list c no_circuit) t (take t.length (drop (region * c) store')) p
+      → message_of store' i (slot_at s i).length ≡ message_at s store i)
+      → StandsFor (get_or s.circuits.list c no_circuit) t (message_of store' c t.length) p
       → Stands (record { circuits = s.circuits; slots = set s.slots c t; last = last; enable = s.enable }) store'
       (record { queues = set q.queues c p; last = last'; enable = q.enable })
   unfolding slot_at message_at queue_at
@@ -103,7 +103,7 @@ module _ (s : Sender) (store : List ℕ) (q : Queues) (h : Stands s store q) whe
       held = omega (arith, listed, h.count)
 
       At : ℕ → Slot → Queue → Type 0
-      At i x y = StandsFor (get_or s.circuits.list i no_circuit) x (take x.length (drop (region * i) store')) y
+      At i x y = StandsFor (get_or s.circuits.list i no_circuit) x (message_of store' i x.length) y
 
       go : (i : ℕ) → i < s.circuits.count → (b : Bool) → eqb i c ≡ b
           → At i (get_or (set s.slots c t) i no_slot) (get_or (set q.queues c p) i (fresh_queue no_circuit))
@@ -126,7 +126,7 @@ module _ (s : Sender) (store : List ℕ) (q : Queues) (h : Stands s store q) whe
     stood = h.each c picked.count
 
     due : SlotPending (slot_at s c)
-    due = slot_pending (slot_at s c) (slot_in_range-slot_at s c h.range picked.count) picked.pending
+    due = slot_pending (slot_at s c) (slot_in_range-wide _ s c h.range picked.count) picked.pending
 
     -- the first copy waiting at the circuit picked is the record's next packet
     pub stands_first : (queue_at q c).copies
@@ -139,8 +139,7 @@ module _ (s : Sender) (store : List ℕ) (q : Queues) (h : Stands s store q) whe
     pub stands_serve : Stands (served s c) store (serve_queues q c)
     unfolding served serve_queues message_at
     stands_serve =
-        let same : take (advanced (slot_at s c)).length (drop (region * c) store) ≡ message_at s store c =
-        ap (λ n. take n (drop (region * c) store)) (length-advanced (slot_at s c)) in
+        let same : message_of store c (advanced (slot_at s c)).length ≡ message_at s store c = ap (message_of store c) (length-advanced (slot_at s c)) in
         Stands-set store c (advanced (slot_at s c)) (behind (queue_at q c)) c c refl picked.count
-        (served_in_range s enable c h.range e) (λ i other listed. refl)
+        (served_in_range _ s enable c h.range e) (λ i other listed. refl)
         (rw same (StandsFor-advanced (get_or s.circuits.list c no_circuit) (slot_at s c) (message_at s store c) (queue_at q c) stood due))

@@ -28,7 +28,7 @@ use Rattle.sender.specs.BlockCalls.{made_of, answer_to_block}
 use Rattle.sender.proofs.InForce.{in_force_at_most_15}
 use Rattle.queues.specs.Queues.{Queues, fresh_queues, Placed}
 use Rattle.queues.specs.Effects.{BlockAsked, packets_taken, taken_for, taken_by}
-use Rattle.queues.specs.Calls.{Call, offer, block, End, fresh_end, accepted, effect}
+use Rattle.queues.specs.Calls.{Call, offer, offer_long, block, End, fresh_end, accepted, effect}
 use Rattle.queues.specs.Stands.{Stands}
 use Rattle.queues.specs.AddedZeros.{used_for, fifths, answer_by_packets, answer_to, answers_to, ZerosCounted}
 use Rattle.queues.proofs.StandsBlock.{stands_block}
@@ -61,6 +61,7 @@ pub answered_accepted : (call : Call) (e : End) (q : Queues) → Stands e.sender
     → answer_to e call ≡ map answer_by_packets (taken_by q (effect call))
 unfolding answer_to taken_by accepted effect answer_by_packets answer_to_block made_of answered used_bits block_packets
 answered_accepted (offer c priority repetition message) e q h a = refl
+answered_accepted (offer_long priority repetition message) e q h a = refl
 answered_accepted (block n u buffer y) e q h a =
     let z : block_refusal e.sender e.store buffer n u y ≡ 0 = eqb-true (block_refusal e.sender e.store buffer n u y) 0 a in
     let t : BlockAsked = record { size = n; before = system_packets y; new_enable = enable_bits y; usable = u } in

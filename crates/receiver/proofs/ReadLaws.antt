@@ -18,6 +18,8 @@ use Rattle.bits.specs.Bits.{bits_of}
 use Rattle.bits.proofs.Tests.{or_left, or_right}
 use Rattle.packet.specs.declared.Refusal.{Refusal}
 use Rattle.packet.specs.Answers.{refusal_of, answered, answer_of}
+use Rattle.packet.specs.Messages.{longest_long}
+use Rattle.packet.specs.Stores.{Stores, long_short}
 use Rattle.packet.proofs.AnswerNumbers.{answer_number-answered, answer_of-Ok, answered-Err}
 use Rattle.framing.specs.declared.Check.{Check}
 use Rattle.framing.specs.declared.Check.TheVariants.{Packet, Spoilt, Nothing}
@@ -29,7 +31,7 @@ use Rattle.framing.proofs.Scanned.{Packed, scan-least, scan-packet}
 use Rattle.notices.specs.declared.Notice.{Notice}
 use Rattle.notices.specs.declared.Hearing.{Hearing}
 use Rattle.notices.specs.Slots.{slots_in_range}
-use Rattle.notices.specs.Stores.{store_length, store_after_notice, writable}
+use Rattle.notices.specs.Stores.{store_length, stores_after_notice, writable}
 use Rattle.notices.specs.Heard.{heard}
 use Rattle.notices.proofs.Hearings.{heard-writable}
 use Rattle.receiver.specs.declared.Receiver.{Receiver}
@@ -44,7 +46,7 @@ use Rattle.receiver.specs.Reading.{
   read_scan,
   read_refusal,
   receiver_after_read,
-  store_after_read,
+  stores_after_read,
   bits_read,
   read_of,
   read_number,
@@ -55,7 +57,7 @@ use Rattle.receiver.specs.Reading.{
 use Rattle.receiver.proofs.InRange.{in_range_parts, with_framing_left, passed-with_framing}
 
 -- an answer's number is the refusal's, and 0 for a notice
-pub read_number-read_of : (refusal : ℕ) (notice : Notice) → refusal ≤ 17 → read_number (read_of refusal notice) ≡ refusal
+pub read_number-read_of : (refusal : ℕ) (notice : Notice) → refusal ≤ 19 → read_number (read_of refusal notice) ≡ refusal
 unfolding read_number read_of
 read_number-read_of refusal notice most = answer_number-answered refusal notice most
 
@@ -82,65 +84,77 @@ some_refusal n r = go (eqb n 0)
     go false h = refl
 
 -- so an answer has the number of its call's refusal
-pub read_refusal-most : (r : Receiver) (store bytes : List ℕ) (from to : ℕ) → read_refusal r store bytes from to ≤ 17
+pub read_refusal-most : (r : Receiver) (l : Stores) (bytes : List ℕ) (from to : ℕ) → read_refusal r l bytes from to ≤ 19
 unfolding read_refusal
-read_refusal-most r store bytes from to = go (not (in_range r)) (ltb (length store) store_length) (ltb to from || ltb (8 * length bytes) to)
+read_refusal-most r l bytes from to =
+    go (not (in_range l.given r)) (ltb (length l.store) store_length) (long_short l) (ltb to from || ltb (8 * length bytes) to)
   where
-    go : (a b c : Bool) → cond a 14 (cond b 5 (cond c 15 0)) ≤ 17
-    go true b c = omega arith
-    go false true c = omega arith
-    go false false true = omega arith
-    go false false false = omega arith
+    go : (a b c d : Bool) → cond a 14 (cond b 5 (cond c 19 (cond d 15 0))) ≤ 19
+    go true b c d = omega arith
+    go false true c d = omega arith
+    go false false true d = omega arith
+    go false false false true = omega arith
+    go false false false false = omega arith
 
-pub answer_to_read-number : (r : Receiver) (store bytes : List ℕ) (from to : ℕ)
-    → read_number (answer_to_read r store bytes from to) ≡ read_refusal r store bytes from to
+pub answer_to_read-number : (r : Receiver) (l : Stores) (bytes : List ℕ) (from to : ℕ)
+    → read_number (answer_to_read r l bytes from to) ≡ read_refusal r l bytes from to
 unfolding answer_to_read
-answer_to_read-number r store bytes from to = read_number-read_of (read_refusal r store bytes from to) _ (read_refusal-most r store bytes from to)
+answer_to_read-number r l bytes from to = read_number-read_of (read_refusal r l bytes from to) _ (read_refusal-most r l bytes from to)
 
 -- ---- an accepted call
 
 -- no test holds if no number is given
-none-holds : (a b c : Bool) → ◌≡◌ {A = ℕ} (cond a 14 (cond b 5 (cond c 15 0))) 0 → (a ≡ false) × (b ≡ false) × (c ≡ false)
-none-holds true b c h = absurd (omega arith)
-none-holds false true c h = absurd (omega arith)
-none-holds false false true h = absurd (omega arith)
-none-holds false false false h = (refl, refl, refl)
+none-holds : (a b c d : Bool) → ◌≡◌ {A = ℕ} (cond a 14 (cond b 5 (cond c 19 (cond d 15 0)))) 0 → (a ≡ false) × (b ≡ false) × (c ≡ false) × (d ≡ false)
+none-holds true b c d h = absurd (omega arith)
+none-holds false true c d h = absurd (omega arith)
+none-holds false false true d h = absurd (omega arith)
+none-holds false false false true h = absurd (omega arith)
+none-holds false false false false h = (refl, refl, refl, refl)
 
 -- what is known of a reading call that is accepted
-pub record Accepted (r : Receiver) (store bytes : List ℕ) (from to : ℕ) : Type 0 where
-  pub range : in_range r ≡ true
-  pub long : store_length ≤ length store
+pub record Accepted (r : Receiver) (l : Stores) (bytes : List ℕ) (from to : ℕ) : Type 0 where
+  pub range : in_range l.given r ≡ true
+  pub enough : store_length ≤ length l.store
+  pub long : l.given ≡ true → longest_long ≤ length l.long
   pub order : from ≤ to
   pub lent : to ≤ 8 * length bytes
 
-pub accepted : (r : Receiver) (store bytes : List ℕ) (from to : ℕ) → read_refusal r store bytes from to ≡ 0 → Accepted r store bytes from to
+-- a long buffer that is given is long enough, or too short
+pub long_enough : (l : Stores) → long_short l ≡ false → l.given ≡ true → longest_long ≤ length l.long
+unfolding long_short
+long_enough l right given = ltb-false (length l.long) longest_long (rw given at right)
+
+pub accepted : (r : Receiver) (l : Stores) (bytes : List ℕ) (from to : ℕ) → read_refusal r l bytes from to ≡ 0 → Accepted r l bytes from to
 unfolding read_refusal
-accepted r store bytes from to e =
-    let (range, short, bits) = none-holds (not (in_range r)) (ltb (length store) store_length) (ltb to from || ltb (8 * length bytes) to) e in
+accepted r l bytes from to e =
+    let (range, short, right, bits) =
+    none-holds (not (in_range l.given r)) (ltb (length l.store) store_length) (long_short l) (ltb to from || ltb (8 * length bytes) to) e in
     record {
-      range = not-false (in_range r) range;
-      long = ltb-false (length store) store_length short;
+      range = not-false (in_range l.given r) range;
+      enough = ltb-false (length l.store) store_length short;
+      long = long_enough l right;
       order = ltb-false to from (or_left (ltb to from) (ltb (8 * length bytes) to) bits);
       lent = ltb-false (8 * length bytes) to (or_right (ltb to from) (ltb (8 * length bytes) to) bits);
     }
 
 -- ---- what a packet makes
 
-module _ (r : Receiver) (p : List ℕ) where
+module _ (r : Receiver) (l : Stores) (p : List ℕ) where
   -- it can be heard, and what its notice writes can be written
-  module _ (range : in_range r ≡ true) where
-    pub before_hearing : (r.circuits.count ≤ 4) × (slots_in_range (take r.circuits.count r.slots) ≡ true)
-    before_hearing = let k = in_range_parts r range in (leb-true r.circuits.count 4 k.count, k.slots)
+  module _ (range : in_range l.given r ≡ true) where
+    pub before_hearing : (r.circuits.count ≤ 4) × (slots_in_range l.given 0 (take r.circuits.count r.slots) ≡ true)
+    before_hearing = let k = in_range_parts l.given r range in (leb-true r.circuits.count 4 k.count, k.slots)
 
-    pub before_writing : {h : Hearing} → h ≡ heard r.circuits r.slots p → writable h.notice r.slots p ≡ true
-    before_writing e = rw e (heard-writable r.circuits r.slots before_hearing.1 before_hearing.0 p)
+    pub before_writing : (l.given ≡ true → longest_long ≤ length l.long) → {h : Hearing} → h ≡ heard l.given r.circuits r.slots p
+        → writable h.notice r.slots p l.long ≡ true
+    before_writing long e = rw e (heard-writable l.given r.circuits r.slots before_hearing.1 before_hearing.0 p l.long long)
 
   -- what is heard of it, and what is written then
-  pub passed-made : (store : List ℕ) {h : Hearing} {new : List ℕ} → h ≡ heard r.circuits r.slots p → new ≡ store_after_notice h.notice r.slots p store
-      → (h.notice ≡ (passed r store p).notice) × (record { circuits = r.circuits; slots = h.slots; framing = r.framing } ≡ (passed r store p).receiver)
-      × (new ≡ (passed r store p).store)
+  pub passed-made : {h : Hearing} {new : Stores} → h ≡ heard l.given r.circuits r.slots p → new ≡ stores_after_notice h.notice r.slots p l
+      → (h.notice ≡ (passed r l p).notice) × (record { circuits = r.circuits; slots = h.slots; framing = r.framing } ≡ (passed r l p).receiver)
+      × (new ≡ (passed r l p).store)
   unfolding passed
-  passed-made store e written = (rw e, rw e, written ∙ rw e)
+  passed-made e written = (rw e, rw e, written ∙ rw e)
 
 -- ---- what a call makes
 
@@ -151,27 +165,27 @@ quiet_check Spoilt h = search rules
 quiet_check Nothing h = search rules
 
 -- a body of which the code knows that it gave no packet
-noticed_quiet : (k : Check) (bytes : List ℕ) (r : Receiver) (store : List ℕ) → OneOf (1 ∷ 2 ∷ []) (tag_of the_type k)
-    → noticed k bytes r store ≡ record { receiver = r; store = store; notice = quiet_notice k }
+noticed_quiet : (k : Check) (bytes : List ℕ) (r : Receiver) (l : Stores) → OneOf (1 ∷ 2 ∷ []) (tag_of the_type k)
+    → noticed k bytes r l ≡ record { receiver = r; store = l; notice = quiet_notice k }
 unfolding noticed quiet_notice
-noticed_quiet (Packet n) bytes r store t = absurd (⊎_elim (λ z. omega arith) (λ z. omega arith) t)
-noticed_quiet Spoilt bytes r store t = refl
-noticed_quiet Nothing bytes r store t = refl
+noticed_quiet (Packet n) bytes r l t = absurd (⊎_elim (λ z. omega arith) (λ z. omega arith) t)
+noticed_quiet Spoilt bytes r l t = refl
+noticed_quiet Nothing bytes r l t = refl
 
-module _ (r : Receiver) (store bytes : List ℕ) (from to : ℕ) where
+module _ (r : Receiver) (l : Stores) (bytes : List ℕ) (from to : ℕ) where
   -- a refused call
-  pub ReadCalled_refused : (k : Refusal) → answer_of (read_refusal r store bytes from to) ≡ Err k → ReadCalled r store bytes from to r store (Err k)
-  unfolding receiver_after_read store_after_read told_by_read
+  pub ReadCalled_refused : (k : Refusal) → answer_of (read_refusal r l bytes from to) ≡ Err k → ReadCalled r l bytes from to r l (Err k)
+  unfolding receiver_after_read stores_after_read told_by_read
   ReadCalled_refused k e =
-      let no = some_refusal (read_refusal r store bytes from to) k e in
-      record { receiver = rw no; told = sym (answered-Err (read_refusal r store bytes from to) _ k e); store = rw no }
+      let no = some_refusal (read_refusal r l bytes from to) k e in
+      record { receiver = rw no; told = sym (answered-Err (read_refusal r l bytes from to) _ k e); store = rw no }
 
-  module _ (h : read_refusal r store bytes from to ≡ 0) where
-    known : Accepted r store bytes from to
-    known = accepted r store bytes from to h
+  module _ (h : read_refusal r l bytes from to ≡ 0) where
+    known : Accepted r l bytes from to
+    known = accepted r l bytes from to h
 
     pub framing_in_range_lem : framing_in_range r.framing ≡ true
-    framing_in_range_lem = (in_range_parts r known.range).framing
+    framing_in_range_lem = (in_range_parts l.given r known.range).framing
 
     pub before_scan : (from ≤ to) × (to ≤ 8 * length bytes)
     before_scan = (known.order, known.lent)
@@ -182,19 +196,19 @@ module _ (r : Receiver) (store bytes : List ℕ) (from to : ℕ) where
       from_least = rw e (scan-least (slice from to (bits_of bytes)) r.framing from)
 
       -- what is heard of them makes the call
-      called : (a : Noticed) → read_by s r store ≡ a
-          → ReadCalled r store bytes from to a.receiver a.store (Ok (record { notice = a.notice; bits = s.at - from }))
-      unfolding receiver_after_read store_after_read bits_read told_by_read answered read_scan
+      called : (a : Noticed) → read_by s r l ≡ a
+          → ReadCalled r l bytes from to a.receiver a.store (Ok (record { notice = a.notice; bits = s.at - from }))
+      unfolding receiver_after_read stores_after_read bits_read told_by_read answered read_scan
       called a d = record { receiver = rw (h, ← e, d); told = rw (h, ← e, d); store = rw (h, ← e, d) }
 
       -- no packet passed
       pub ReadCalled_quiet : OneOf (1 ∷ 2 ∷ []) (tag_of the_type s.check) → {n : Notice} → n ≡ quiet_notice s.check
-          → ReadCalled r store bytes from to (with_framing r s.framing) store (Ok (record { notice = n; bits = s.at - from }))
+          → ReadCalled r l bytes from to (with_framing r s.framing) l (Ok (record { notice = n; bits = s.at - from }))
       unfolding read_by
       ReadCalled_quiet t d =
           rw d
-          (called (record { receiver = with_framing r s.framing; store = store; notice = quiet_notice s.check })
-          (noticed_quiet s.check s.bytes (with_framing r s.framing) store t))
+          (called (record { receiver = with_framing r s.framing; store = l; notice = quiet_notice s.check })
+          (noticed_quiet s.check s.bytes (with_framing r s.framing) l t))
 
       -- a packet passed
       module _ {n : ℕ} (p : s.check ≡ Packet n) where
@@ -203,14 +217,14 @@ module _ (r : Receiver) (store bytes : List ℕ) (from to : ℕ) where
 
         pub packet_lengths : n ≤ length s.bytes → (2 ≤ length (take n s.bytes)) × (length (take n s.bytes) ≤ 19)
         packet_lengths h =
-            let l : length (take n s.bytes) ≡ n = length-take-le n s.bytes h in
+            let long : length (take n s.bytes) ≡ n = length-take-le n s.bytes h in
             (omega (arith, packed), omega (arith, packed))
 
-        pub ReadCalled-packet : {left : Receiver} {new : List ℕ} {notice : Notice}
-            → (notice ≡ (passed r store (take n s.bytes)).notice) × (left ≡ (passed r store (take n s.bytes)).receiver)
-            × (new ≡ (passed r store (take n s.bytes)).store)
-            → ReadCalled r store bytes from to (with_framing left s.framing) new (Ok (record { notice = notice; bits = s.at - from }))
+        pub ReadCalled-packet : {left : Receiver} {new : Stores} {notice : Notice}
+            → (notice ≡ (passed r l (take n s.bytes)).notice) × (left ≡ (passed r l (take n s.bytes)).receiver)
+            × (new ≡ (passed r l (take n s.bytes)).store)
+            → ReadCalled r l bytes from to (with_framing left s.framing) new (Ok (record { notice = notice; bits = s.at - from }))
         unfolding read_by noticed with_framing_left
         ReadCalled-packet (told, receiver, after) =
             rw (told, receiver, after)
-            (called (with_framing_left (passed r store (take n s.bytes)) s.framing) (rw p (passed-with_framing r s.framing store (take n s.bytes))))
+            (called (with_framing_left (passed r l (take n s.bytes)) s.framing) (rw p (passed-with_framing r s.framing l (take n s.bytes))))

@@ -12,6 +12,7 @@ use Rattle.bits.specs.Bits.{bits_of}
 use Rattle.bits.proofs.Bits.{length-bits_of}
 use Rattle.hdlc.specs.Bodies.{Judged}
 use Rattle.packet.specs.Circuits.{listing}
+use Rattle.packet.specs.Stores.{Stores}
 use Rattle.framing.specs.declared.Check.{Check}
 use Rattle.framing.specs.declared.Check.TheVariants.{Packet, Nothing}
 use Rattle.framing.specs.declared.Check.TheVariants.{Spoilt as SpoiltBody}
@@ -24,7 +25,7 @@ use Rattle.framing.proofs.Scanned.{scan-least, scan-most}
 use Rattle.notices.specs.declared.Notice.{Notice}
 use Rattle.receiver.specs.declared.Receiver.{Receiver}
 use Rattle.receiver.specs.Record.{fresh}
-use Rattle.receiver.specs.Reading.{with_framing, noticed, read_by, read_scan, read_refusal, store_after_read, bits_read, read_of, answer_to_read}
+use Rattle.receiver.specs.Reading.{with_framing, noticed, read_by, read_scan, read_refusal, stores_after_read, bits_read, read_of, answer_to_read}
 use Rattle.receiver.specs.Reads.{ReadCall, ReceiverEnd, fresh_receiver_end, after_reads, bits_of_read, bits_of_reads, Report, report_of, told, told_by_reads, told_by_judged, is_end, not_end}
 use Rattle.receiver.specs.TellsFirst.{told_up_to, TellsFirst}
 use Rattle.receiver.proofs.ReadLaws.{told_by, before_scan}
@@ -32,21 +33,21 @@ use Rattle.framing.proofs.ScanGives.{gives, gives_from, gives_append, take_slice
 use Rattle.receiver.proofs.ReadsTell.{tell_same, passed_tells, read_tells, reads_tell-then, bodies-tell, reads_leave}
 
 -- End is told only of a scan that no body stopped
-end_ends : (c : Check) (bytes : List ℕ) (r : Receiver) (store : List ℕ) (at end : ℕ) → is_end (noticed c bytes r store).notice ≡ true → EndsAt c at end → at ≡ end
+end_ends : (c : Check) (bytes : List ℕ) (r : Receiver) (l : Stores) (at end : ℕ) → is_end (noticed c bytes r l).notice ≡ true → EndsAt c at end → at ≡ end
 unfolding noticed is_end
-end_ends (Packet n) bytes r store at end e h = absurd (true≢false (sym e ∙ passed_tells r store (take n bytes)))
-end_ends SpoiltBody bytes r store at end e h = absurd (true≢false (sym e))
-end_ends Nothing bytes r store at end e h = h
+end_ends (Packet n) bytes r l at end e h = absurd (true≢false (sym e ∙ passed_tells r l (take n bytes)))
+end_ends SpoiltBody bytes r l at end e h = absurd (true≢false (sym e))
+end_ends Nothing bytes r l at end e h = h
 
 -- ---- a reading call, behind others
 
-module _ (list store : List ℕ) (reads : List ReadCall) (c : ReadCall) where
+module _ (list : List ℕ) (l : Stores) (reads : List ReadCall) (c : ReadCall) where
   -- where the calls before leave the receiver, what they told, and the bits that are lent
   abbrev e : ReceiverEnd
-  e = after_reads (fresh_receiver_end list store) reads
+  e = after_reads (fresh_receiver_end list l) reads
 
   abbrev before : List Report
-  before = not_end (told_by_reads (fresh_receiver_end list store) reads)
+  before = not_end (told_by_reads (fresh_receiver_end list l) reads)
 
   abbrev lent : List Bool
   lent = drop c.from (bits_of c.bytes)
@@ -55,17 +56,17 @@ module _ (list store : List ℕ) (reads : List ReadCall) (c : ReadCall) where
   part = slice c.from c.to (bits_of c.bytes)
 
   -- the bits tell what was told before, and then what these tell the receiver that is left
-  told_up_to_is : (j : ℕ) → told_up_to list store reads c j ≡ before ++ told_by_judged e.receiver e.store (gives (closings e.receiver.framing 0 (take j lent)))
+  told_up_to_is : (j : ℕ) → told_up_to list l reads c j ≡ before ++ told_by_judged e.receiver e.store (gives (closings e.receiver.framing 0 (take j lent)))
   unfolding told_up_to fresh
   told_up_to_is j =
-      let all : List Bool = bits_of_reads (fresh_receiver_end list store) reads in
-      rw (reads_leave list store reads)
-      (sym (bodies-tell (all ++ take j lent) (fresh (listing list)) store)
-      ∙ ap (told_by_judged (fresh (listing list)) store) (gives_append all (take j lent) fresh_framing)
-      ∙ reads_tell-then reads (fresh_receiver_end list store) (gives (closings (run fresh_framing all) 0 (take j lent))))
+      let all : List Bool = bits_of_reads (fresh_receiver_end list l) reads in
+      rw (reads_leave list l reads)
+      (sym (bodies-tell (all ++ take j lent) (fresh (listing list)) l)
+      ∙ ap (told_by_judged (fresh (listing list)) l) (gives_append all (take j lent) fresh_framing)
+      ∙ reads_tell-then reads (fresh_receiver_end list l) (gives (closings (run fresh_framing all) 0 (take j lent))))
 
   -- none of them tell what was told before
-  told_up_to-none : told_up_to list store reads c 0 ≡ before
+  told_up_to-none : told_up_to list l reads c 0 ≡ before
   unfolding closings told_by_judged
   told_up_to-none = told_up_to_is 0 ∙ append-nil before
 
@@ -73,8 +74,8 @@ module _ (list store : List ℕ) (reads : List ReadCall) (c : ReadCall) where
     abbrev k : ℕ
     k = bits_read e.receiver e.store c.bytes c.from c.to
 
-    abbrev after : List ℕ
-    after = store_after_read e.receiver e.store c.bytes c.from c.to
+    abbrev after : Stores
+    after = stores_after_read e.receiver e.store c.bytes c.from c.to
 
     abbrev s : Scan
     s = scan e.receiver.framing c.from part
@@ -124,7 +125,7 @@ module _ (list store : List ℕ) (reads : List ReadCall) (c : ReadCall) where
         (scan_ends part e.receiver.framing c.from) in
         omega (arith, k_is, length_part, last, k_within)
 
-    tells_first : TellsFirst list store reads c n after k
+    tells_first : TellsFirst list l reads c n after k
     tells_first =
         record {
           within = k_within;
@@ -136,9 +137,9 @@ module _ (list store : List ℕ) (reads : List ReadCall) (c : ReadCall) where
               λ end. (told_up_to_is k ∙ ap (◌++◌ before) (all_tell ∙ rw end) ∙ append-nil before ∙ sym told_up_to-none, all_read_lem end);
         }
 
-pub read_tells_first : (list store : List ℕ) (reads : List ReadCall) (c : ReadCall) (n : Notice)
-    → (let e = after_reads (fresh_receiver_end list store) reads in
+pub read_tells_first : (list : List ℕ) (l : Stores) (reads : List ReadCall) (c : ReadCall) (n : Notice)
+    → (let e = after_reads (fresh_receiver_end list l) reads in
     answer_to_read e.receiver e.store c.bytes c.from c.to ≡ Ok n
-    → TellsFirst list store reads c n (store_after_read e.receiver e.store c.bytes c.from c.to)
+    → TellsFirst list l reads c n (stores_after_read e.receiver e.store c.bytes c.from c.to)
     (bits_read e.receiver e.store c.bytes c.from c.to))
-read_tells_first list store reads c n = tells_first list store reads c n
+read_tells_first list l reads c n = tells_first list l reads c n

@@ -1,5 +1,5 @@
 -- What is read out of any bits equals what they give: whatever reading calls, accepted or refused, and wherever they cut the bits, their notices but End,
--- with the store as each call left it, are those of the declared bodies of all bits read, in order; and they leave the framing that these bits leave.
+-- with the stores as each call left them, are those of the declared bodies of all bits read, in order; and they leave the framing that these bits leave.
 use Prim.Native.Nat.{ℕ, ◌-◌}
 use mathlib.Core.Bool.{Bool, true, false, cond}
 use mathlib.Core.List.{List, [], ◌∷◌, ◌++◌, map, append_assoc, append-nil}
@@ -11,6 +11,7 @@ use lib.Dec.{eqb}
 use Rattle.bits.specs.Bits.{bits_of}
 use Rattle.hdlc.specs.Bodies.{Body, Judged, passes, spoilt, nothing, bodies, judge}
 use Rattle.packet.specs.Circuits.{listed, listing, number_from}
+use Rattle.packet.specs.Stores.{Stores}
 use Rattle.packet.proofs.Choices.{cond_either}
 use Rattle.parsing.specs.Packets.{address, circuit_in, malformed}
 use Rattle.notices.specs.declared.Slot.{Slot}
@@ -31,53 +32,53 @@ use Rattle.framing.proofs.ScanFindsFirst.{scan_leaves}
 use Rattle.receiver.specs.declared.Receiver.{Receiver}
 use Rattle.receiver.specs.Record.{fresh}
 use Rattle.packet.specs.Answers.{refusal_of, answered}
-use Rattle.receiver.specs.Reading.{with_framing, Noticed, passed, noticed, read_by, read_scan, read_refusal, receiver_after_read, store_after_read, bits_read, read_of, answer_to_read}
+use Rattle.receiver.specs.Reading.{with_framing, Noticed, passed, noticed, read_by, read_scan, read_refusal, receiver_after_read, stores_after_read, bits_read, read_of, answer_to_read}
 use Rattle.receiver.specs.Reads.{ReadCall, ReceiverEnd, fresh_receiver_end, after_read, after_reads, bits_of_read, bits_of_reads, Report, report_of, told, told_by_reads, told_by_judged, told_by_bodies, is_end, not_end}
 use Rattle.receiver.proofs.InRange.{with_framing_left, passed-with_framing, noticed-framing}
 
 -- ---- what bodies tell
 
 -- those that give nothing tell nothing
-not_nothing-tell : (js : List Judged) (r : Receiver) (store : List ℕ) → told_by_judged r store js ≡ told_by_judged r store (not_nothing js)
+not_nothing-tell : (js : List Judged) (r : Receiver) (l : Stores) → told_by_judged r l js ≡ told_by_judged r l (not_nothing js)
 unfolding told_by_judged not_nothing
-not_nothing-tell [] r store = refl
-not_nothing-tell (passes p ∷ js) r store =
-    rw (not_nothing-tell js (passed r store p).receiver (passed r store p).store)
-not_nothing-tell (spoilt ∷ js) r store = rw (not_nothing-tell js r store)
-not_nothing-tell (nothing ∷ js) r store = not_nothing-tell js r store
+not_nothing-tell [] r l = refl
+not_nothing-tell (passes p ∷ js) r l =
+    rw (not_nothing-tell js (passed r l p).receiver (passed r l p).store)
+not_nothing-tell (spoilt ∷ js) r l = rw (not_nothing-tell js r l)
+not_nothing-tell (nothing ∷ js) r l = not_nothing-tell js r l
 
 -- bodies that give the same tell the same, with bodies behind them too
-pub tell_same : (js ks : List Judged) → not_nothing js ≡ not_nothing ks → (r : Receiver) (store : List ℕ) → told_by_judged r store js ≡ told_by_judged r store ks
-tell_same js ks e r store = not_nothing-tell js r store ∙ rw e (sym (not_nothing-tell ks r store))
+pub tell_same : (js ks : List Judged) → not_nothing js ≡ not_nothing ks → (r : Receiver) (l : Stores) → told_by_judged r l js ≡ told_by_judged r l ks
+tell_same js ks e r l = not_nothing-tell js r l ∙ rw e (sym (not_nothing-tell ks r l))
 
 tell_same_then : (js ks ls : List Judged) → not_nothing js ≡ not_nothing ks
-    → (r : Receiver) (store : List ℕ) → told_by_judged r store (js ++ ls) ≡ told_by_judged r store (ks ++ ls)
+    → (r : Receiver) (l : Stores) → told_by_judged r l (js ++ ls) ≡ told_by_judged r l (ks ++ ls)
 tell_same_then js ks ls e = tell_same (js ++ ls) (ks ++ ls) (rw (not_nothing_append, not_nothing_append, e))
 
 -- ---- what packets tell
 
 -- it does not depend on the framing
-told_by_judged-with_framing : (js : List Judged) (r : Receiver) (f : Framing) (store : List ℕ)
-    → told_by_judged (with_framing r f) store js ≡ told_by_judged r store js
+told_by_judged-with_framing : (js : List Judged) (r : Receiver) (f : Framing) (l : Stores)
+    → told_by_judged (with_framing r f) l js ≡ told_by_judged r l js
 unfolding told_by_judged with_framing_left
-told_by_judged-with_framing [] r f store = refl
-told_by_judged-with_framing (passes p ∷ js) r f store =
-    rw (passed-with_framing r f store p, told_by_judged-with_framing js (passed r store p).receiver f (passed r store p).store)
-told_by_judged-with_framing (spoilt ∷ js) r f store = rw (told_by_judged-with_framing js r f store)
-told_by_judged-with_framing (nothing ∷ js) r f store = told_by_judged-with_framing js r f store
+told_by_judged-with_framing [] r f l = refl
+told_by_judged-with_framing (passes p ∷ js) r f l =
+    rw (passed-with_framing r f l p, told_by_judged-with_framing js (passed r l p).receiver f (passed r l p).store)
+told_by_judged-with_framing (spoilt ∷ js) r f l = rw (told_by_judged-with_framing js r f l)
+told_by_judged-with_framing (nothing ∷ js) r f l = told_by_judged-with_framing js r f l
 
 -- and is not End
-heard_by_tells : (n : Option ℕ) (slots : List Slot) (p : List ℕ) → is_end (heard_by n slots p).notice ≡ false
+heard_by_tells : (given : Bool) (n : Option ℕ) (slots : List Slot) (p : List ℕ) → is_end (heard_by given n slots p).notice ≡ false
 unfolding heard_by heard_at is_end
-heard_by_tells None slots p = refl
-heard_by_tells (Some c) slots p = refl
+heard_by_tells given None slots p = refl
+heard_by_tells given (Some c) slots p = refl
 
-pub passed_tells : (r : Receiver) (store p : List ℕ) → is_end (passed r store p).notice ≡ false
+pub passed_tells : (r : Receiver) (l : Stores) (p : List ℕ) → is_end (passed r l p).notice ≡ false
 unfolding passed heard system_heard is_end
-passed_tells r store p =
+passed_tells r l p =
     cond_either (λ (h : Hearing). is_end h.notice ≡ false) (malformed p) _ _ (λ _. refl)
     (λ _. cond_either (λ (h : Hearing). is_end h.notice ≡ false) (eqb (address p) 0xff) _ _ (λ _. refl)
-    (λ _. heard_by_tells (number_from (listed r.circuits) (circuit_in p) 0) r.slots p))
+    (λ _. heard_by_tells l.given (number_from (listed r.circuits) (circuit_in p) 0) r.slots p))
 
 -- ---- a reading call
 
@@ -91,14 +92,14 @@ not_end_append (t ∷ a) b = rw (not_end_append a b) (go (is_end t.notice))
     go false = refl
 
 -- what a scan tells is what the body tells at which it stopped, with bodies behind it
-noticed_tells : (c : Check) (bytes : List ℕ) (r : Receiver) (store : List ℕ) (js : List Judged)
-    → (let h = noticed c bytes r store in
-    told_by_judged r store (given_by c bytes ∷ js)
+noticed_tells : (c : Check) (bytes : List ℕ) (r : Receiver) (l : Stores) (js : List Judged)
+    → (let h = noticed c bytes r l in
+    told_by_judged r l (given_by c bytes ∷ js)
     ≡ not_end (record { notice = h.notice; store = h.store } ∷ []) ++ told_by_judged h.receiver h.store js)
 unfolding noticed told_by_judged given_by not_end is_end
-noticed_tells (Packet n) bytes r store js = rw (passed_tells r store (take n bytes))
-noticed_tells SpoiltBody bytes r store js = refl
-noticed_tells Nothing bytes r store js = refl
+noticed_tells (Packet n) bytes r l js = rw (passed_tells r l (take n bytes))
+noticed_tells SpoiltBody bytes r l js = refl
+noticed_tells Nothing bytes r l js = refl
 
 module _ (e : ReceiverEnd) (c : ReadCall) where
   -- the call's receiver, the bits lent to it, their scan, and what that leaves and tells
@@ -129,7 +130,7 @@ module _ (e : ReceiverEnd) (c : ReadCall) where
   pub read_tells : (js : List Judged)
       → told_by_judged r e.store (gives (closings r.framing 0 (bits_of_read e c)) ++ js)
       ≡ not_end (told e c) ++ told_by_judged (after_read e c).receiver (after_read e c).store js
-  unfolding told report_of answer_to_read read_of answered after_read receiver_after_read store_after_read bits_of_read bits_read read_scan read_by closings not_end
+  unfolding told report_of answer_to_read read_of answered after_read receiver_after_read stores_after_read bits_of_read bits_read read_scan read_by closings not_end
   read_tells js = go (eqb (read_refusal e.receiver e.store c.bytes c.from c.to) 0)
     where
       go : (t : Bool)
@@ -185,21 +186,21 @@ after_reads_leaves (c ∷ cs) e =
 -- ---- declared bodies
 
 -- what declared bodies tell, by those that the machine closes
-pub bodies-tell : (bits : List Bool) (r : Receiver) (store : List ℕ) → told_by_judged r store (gives (closings fresh_framing 0 bits)) ≡ told_by_bodies r store (bodies bits)
+pub bodies-tell : (bits : List Bool) (r : Receiver) (l : Stores) → told_by_judged r l (gives (closings fresh_framing 0 bits)) ≡ told_by_bodies r l (bodies bits)
 unfolding told_by_bodies
 bodies-tell bits = tell_same (gives (closings fresh_framing 0 bits)) (map (λ (b : Body). judge b.bits) (bodies bits)) (bodies-given bits)
 
 -- ---- from a fresh receiver on
 
-pub reads_tell-bodies : (list store : List ℕ) (reads : List ReadCall)
-    → not_end (told_by_reads (fresh_receiver_end list store) reads)
-    ≡ told_by_bodies (fresh (listing list)) store (bodies (bits_of_reads (fresh_receiver_end list store) reads))
+pub reads_tell-bodies : (list : List ℕ) (l : Stores) (reads : List ReadCall)
+    → not_end (told_by_reads (fresh_receiver_end list l) reads)
+    ≡ told_by_bodies (fresh (listing list)) l (bodies (bits_of_reads (fresh_receiver_end list l) reads))
 unfolding fresh
-reads_tell-bodies list store reads =
-    let e : ReceiverEnd = fresh_receiver_end list store in
-    reads_tell reads e ∙ bodies-tell (bits_of_reads e reads) e.receiver store
+reads_tell-bodies list l reads =
+    let e : ReceiverEnd = fresh_receiver_end list l in
+    reads_tell reads e ∙ bodies-tell (bits_of_reads e reads) e.receiver l
 
-pub reads_leave : (list store : List ℕ) (reads : List ReadCall)
-    → (after_reads (fresh_receiver_end list store) reads).receiver.framing ≡ run fresh_framing (bits_of_reads (fresh_receiver_end list store) reads)
+pub reads_leave : (list : List ℕ) (l : Stores) (reads : List ReadCall)
+    → (after_reads (fresh_receiver_end list l) reads).receiver.framing ≡ run fresh_framing (bits_of_reads (fresh_receiver_end list l) reads)
 unfolding fresh
-reads_leave list store reads = after_reads_leaves reads (fresh_receiver_end list store)
+reads_leave list l reads = after_reads_leaves reads (fresh_receiver_end list l)

@@ -5,6 +5,7 @@ use Rattle.std.proofs.Math.Seq.{slice}
 use Rattle.bits.specs.Bits.{bits_of}
 use Rattle.packet.specs.declared.Refusal.{Refusal}
 use Rattle.packet.specs.Answers.{answered, answer_number}
+use Rattle.packet.specs.Stores.{Stores, long_short}
 use Rattle.framing.specs.declared.Framing.{Framing}
 use Rattle.framing.specs.declared.Check.{Check}
 use Rattle.framing.specs.declared.Check.TheVariants.{Packet, Nothing}
@@ -14,7 +15,7 @@ use Rattle.framing.specs.Scanning.{scan}
 use Rattle.notices.specs.declared.Notice.{Notice}
 use Rattle.notices.specs.declared.Notice.TheVariants.{End, Spoilt}
 use Rattle.notices.specs.declared.Hearing.{Hearing}
-use Rattle.notices.specs.Stores.{store_length, store_after_notice}
+use Rattle.notices.specs.Stores.{store_length, stores_after_notice}
 use Rattle.notices.specs.Heard.{heard}
 use Rattle.receiver.specs.declared.Receiver.{Receiver}
 use Rattle.receiver.specs.declared.Told.{Told}
@@ -24,27 +25,27 @@ use Rattle.receiver.specs.Record.{in_range}
 unfoldable pub with_framing : Receiver → Framing → Receiver
 with_framing r f = record { circuits = r.circuits; slots = r.slots; framing = f }
 
--- receiver and store after a body, and the notice
+-- receiver and stores after a body, and the notice
 pub record Noticed : Type 0 where
   pub receiver : Receiver
-  pub store : List ℕ
+  pub store : Stores
   pub notice : Notice
 
 -- what a packet that passed leaves and tells
-unfoldable pub passed : Receiver → List ℕ → List ℕ → Noticed
-passed r store p =
-    let h : Hearing = heard r.circuits r.slots p in
+unfoldable pub passed : Receiver → Stores → List ℕ → Noticed
+passed r l p =
+    let h : Hearing = heard l.given r.circuits r.slots p in
     record {
       receiver = record { circuits = r.circuits; slots = h.slots; framing = r.framing };
-      store = store_after_notice h.notice r.slots p store;
+      store = stores_after_notice h.notice r.slots p l;
       notice = h.notice;
     }
 
 -- "Each body that passes gives one notice; one that does not, and unstuffs to 32 bits or more, gives Spoilt. Others, void ones too, give none"
-unfoldable pub noticed : Check → List ℕ → Receiver → List ℕ → Noticed
-noticed (Packet n) bytes r store = passed r store (take n bytes)
-noticed SpoiltBody bytes r store = record { receiver = r; store = store; notice = Spoilt }
-noticed Nothing bytes r store = record { receiver = r; store = store; notice = End }
+unfoldable pub noticed : Check → List ℕ → Receiver → Stores → Noticed
+noticed (Packet n) bytes r l = passed r l (take n bytes)
+noticed SpoiltBody bytes r l = record { receiver = r; store = l; notice = Spoilt }
+noticed Nothing bytes r l = record { receiver = r; store = l; notice = End }
 
 -- the notice where no packet passed
 unfoldable pub quiet_notice : Check → Notice
@@ -53,51 +54,53 @@ quiet_notice SpoiltBody = Spoilt
 quiet_notice Nothing = End
 
 -- what a scan of bits leaves and tells
-unfoldable pub read_by : Scan → Receiver → List ℕ → Noticed
-read_by s r store = noticed s.check s.bytes (with_framing r s.framing) store
+unfoldable pub read_by : Scan → Receiver → Stores → Noticed
+read_by s r l = noticed s.check s.bytes (with_framing r s.framing) l
 
 -- the scan of a reading call
 unfoldable pub read_scan : Receiver → List ℕ → ℕ → ℕ → Scan
 read_scan r bytes from to = scan r.framing from (slice from to (bits_of bytes))
 
--- "Reading (from bit, to bit): 14; 5; 15 from above to, or to past the bytes lent"; 0 if it is accepted
-unfoldable pub read_refusal : Receiver → List ℕ → List ℕ → ℕ → ℕ → ℕ
-read_refusal r store bytes from to =
-    cond (not (in_range r)) 14
-    (cond (ltb (length store) store_length) 5
-    (cond (ltb to from || ltb (8 * length bytes) to) 15 0))
+-- "Reading (from bit, to bit): 14; 5; 15 from above to, or to past the bytes lent"; "19 long buffer too short, after 5 in every call given one" (document
+-- 02, ask 7); 0 if it is accepted
+unfoldable pub read_refusal : Receiver → Stores → List ℕ → ℕ → ℕ → ℕ
+read_refusal r l bytes from to =
+    cond (not (in_range l.given r)) 14
+    (cond (ltb (length l.store) store_length) 5
+    (cond (long_short l) 19
+    (cond (ltb to from || ltb (8 * length bytes) to) 15 0)))
 
 -- "All refusals return .. the record given, and leave every lent byte unchanged"; "These stop at no bit read"
-unfoldable pub receiver_after_read : Receiver → List ℕ → List ℕ → ℕ → ℕ → Receiver
-receiver_after_read r store bytes from to =
-    cond (eqb (read_refusal r store bytes from to) 0) (read_by (read_scan r bytes from to) r store).receiver r
+unfoldable pub receiver_after_read : Receiver → Stores → List ℕ → ℕ → ℕ → Receiver
+receiver_after_read r l bytes from to =
+    cond (eqb (read_refusal r l bytes from to) 0) (read_by (read_scan r bytes from to) r l).receiver r
 
-unfoldable pub store_after_read : Receiver → List ℕ → List ℕ → ℕ → ℕ → List ℕ
-store_after_read r store bytes from to =
-    cond (eqb (read_refusal r store bytes from to) 0) (read_by (read_scan r bytes from to) r store).store store
+unfoldable pub stores_after_read : Receiver → Stores → List ℕ → ℕ → ℕ → Stores
+stores_after_read r l bytes from to =
+    cond (eqb (read_refusal r l bytes from to) 0) (read_by (read_scan r bytes from to) r l).store l
 
-unfoldable pub bits_read : Receiver → List ℕ → List ℕ → ℕ → ℕ → ℕ
-bits_read r store bytes from to = cond (eqb (read_refusal r store bytes from to) 0) ((read_scan r bytes from to).at - from) 0
+unfoldable pub bits_read : Receiver → Stores → List ℕ → ℕ → ℕ → ℕ
+bits_read r l bytes from to = cond (eqb (read_refusal r l bytes from to) 0) ((read_scan r bytes from to).at - from) 0
 
 -- the answer to a reading call: the notice, or the refusal with a number
 unfoldable pub read_of : ℕ → Notice → Result Notice Refusal
 read_of refusal notice = answered refusal notice
 
--- the number of an answer in document 01: 0 stands for a notice
+-- the number of an answer in the documents: 0 stands for a notice
 unfoldable pub read_number : Result Notice Refusal → ℕ
 read_number a = answer_number a
 
-unfoldable pub answer_to_read : Receiver → List ℕ → List ℕ → ℕ → ℕ → Result Notice Refusal
-answer_to_read r store bytes from to = read_of (read_refusal r store bytes from to) (read_by (read_scan r bytes from to) r store).notice
+unfoldable pub answer_to_read : Receiver → Stores → List ℕ → ℕ → ℕ → Result Notice Refusal
+answer_to_read r l bytes from to = read_of (read_refusal r l bytes from to) (read_by (read_scan r bytes from to) r l).notice
 
 -- the answer with the bits read beside the notice
-unfoldable pub told_by_read : Receiver → List ℕ → List ℕ → ℕ → ℕ → Result Told Refusal
-told_by_read r store bytes from to =
-    answered (read_refusal r store bytes from to)
-    (record { notice = (read_by (read_scan r bytes from to) r store).notice; bits = bits_read r store bytes from to })
+unfoldable pub told_by_read : Receiver → Stores → List ℕ → ℕ → ℕ → Result Told Refusal
+told_by_read r l bytes from to =
+    answered (read_refusal r l bytes from to)
+    (record { notice = (read_by (read_scan r bytes from to) r l).notice; bits = bits_read r l bytes from to })
 
 -- what a reading call returns and leaves
-pub record ReadCalled (r : Receiver) (old bytes : List ℕ) (from to : ℕ) (left : Receiver) (new : List ℕ) (a : Result Told Refusal) : Type 0 where
+pub record ReadCalled (r : Receiver) (old : Stores) (bytes : List ℕ) (from to : ℕ) (left : Receiver) (new : Stores) (a : Result Told Refusal) : Type 0 where
   pub receiver : left ≡ receiver_after_read r old bytes from to
   pub told : a ≡ told_by_read r old bytes from to
-  pub store : new ≡ store_after_read r old bytes from to
+  pub store : new ≡ stores_after_read r old bytes from to

@@ -11,8 +11,9 @@ use Rattle.receiver.specs.declared.Receiver.{Receiver}
 unfoldable pub fresh : Circuits → Receiver
 fresh cs = record { circuits = cs; slots = replicate 4 fresh_slot; framing = fresh_framing }
 
--- "14 a record out of range (more than four circuits, circuits that listing refuses by 2, 3 or 4, .. or a framing that no bits leave)"
-unfoldable pub in_range : Receiver → Bool
-in_range r =
+-- "14 a record out of range (more than four circuits, circuits that listing refuses by 2, 3 or 4, .. or a framing that no bits leave)"; a long buffer is
+-- `given` or not
+unfoldable pub in_range : Bool → Receiver → Bool
+in_range given r =
     leb r.circuits.count 4 && eqb (circuits_refusal (listed r.circuits)) 0 &&
-    slots_in_range (take r.circuits.count r.slots) && framing_in_range r.framing
+    slots_in_range given 0 (take r.circuits.count r.slots) && framing_in_range r.framing

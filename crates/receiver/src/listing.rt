@@ -42,14 +42,14 @@ impl Receiver {
         Listed::of(bytes, Receiver::fresh)
     }
 
-    // The record is in range.
+    // The record is in range, where a long buffer is given or not.
     #[tactic(auto, using(crate::proofs::InRange::listed_right), unfolding(crate::specs::Record::in_range))]
-    pub fn in_range(self) -> bool
-        ensures { result ≡ in_range self }
+    pub fn in_range(self, given: bool) -> bool
+        ensures { result ≡ in_range given self }
     {
         self.circuits.count <= 4
             && self.circuits.check().is_ok()
-            && slots::slots_in_range(self.slots, self.circuits.count as usize)
+            && slots::slots_in_range(self.slots, self.circuits.count as usize, given)
             && self.framing.in_range()
     }
 }

@@ -8,13 +8,14 @@ use lib.ListN.{length, take, drop, set, length-append, take-append-drop}
 use lib.Seq.{sets, sets-eq, drop_at}
 use Rattle.bits.specs.Bits.{Bytes}
 use Rattle.bits.proofs.Lists.{sets_front}
+use Rattle.packet.specs.Stores.{Stores, takes_long}
 use Rattle.framing.specs.declared.Framing.{Framing}
 use Rattle.notices.specs.declared.Slot.{Slot}
 use Rattle.notices.specs.declared.Fate.{Fate}
 use Rattle.notices.specs.declared.Notice.TheVariants.{Circuit}
 use Rattle.notices.specs.Slots.{slot_at}
 use Rattle.notices.specs.Fates.{is_copy, loss_of, fate_of, slot_after}
-use Rattle.notices.specs.Stores.{store_after_fate, store_after_notice}
+use Rattle.notices.specs.Stores.{stores_after_fate, stores_after_notice}
 use Rattle.notices.specs.Heard.{heard_at}
 use Rattle.receiver.specs.declared.Receiver.{Receiver}
 use Rattle.receiver.specs.Reading.{with_framing}
@@ -81,13 +82,13 @@ module _ (bytes : List ℕ) (long : receiver_length ≤ length bytes) where
 
 -- ---- a listed circuit's packet
 
-module _ (bytes store p : List ℕ) (c : ℕ) {t : Slot} (e : t ≡ slot_at (receiver_in bytes).slots c) where
+module _ (bytes : List ℕ) (l : Stores) (p : List ℕ) (c : ℕ) {t : Slot} (e : t ≡ slot_at (receiver_in bytes).slots c) where
   -- what the code makes of it
-  pub circuit_heard : {fate : Fate} → fate ≡ fate_of t p → {loss : ℕ} → loss ≡ cond (is_copy t p) 0 (loss_of t p)
+  pub circuit_heard : {fate : Fate} → fate ≡ fate_of (takes_long l.given c) t p → {loss : ℕ} → loss ≡ cond (is_copy t p) 0 (loss_of t p)
       → {next : Slot} → next ≡ slot_after fate t p → {new : List ℕ} → new ≡ sets bytes (13 + 6 * c) (slot_bytes next)
-      → {new_store : List ℕ} → new_store ≡ store_after_fate fate c t p store
-      → (Circuit c loss fate ≡ (heard_at c (receiver_in bytes).slots p).notice)
-      × (new ≡ sets bytes (13 + 6 * c) (slot_bytes (slot_after (fate_of (slot_at (receiver_in bytes).slots c) p) (slot_at (receiver_in bytes).slots c) p)))
-      × (new_store ≡ store_after_notice (Circuit c loss fate) (receiver_in bytes).slots p store)
-  unfolding heard_at store_after_notice
+      → {after : Stores} → after ≡ stores_after_fate fate c t p l
+      → (Circuit c loss fate ≡ (heard_at l.given c (receiver_in bytes).slots p).notice)
+      × (new ≡ sets bytes (13 + 6 * c) (slot_bytes (slot_after (fate_of (takes_long l.given c) (slot_at (receiver_in bytes).slots c) p) (slot_at (receiver_in bytes).slots c) p)))
+      × (after ≡ stores_after_notice (Circuit c loss fate) (receiver_in bytes).slots p l)
+  unfolding heard_at stores_after_notice
   circuit_heard ef el en written stored = (rw (el, ef, e), written ∙ rw (en, ef, e), stored ∙ rw e)

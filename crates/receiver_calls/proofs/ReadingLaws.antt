@@ -21,13 +21,14 @@ use Rattle.framing.specs.Range.{in_range as framing_in_range}
 use Rattle.framing.specs.Scanning.{scan}
 use Rattle.framing.specs.contracts.Check.{the_type}
 use Rattle.framing.proofs.ScanInRange.{Array21}
+use Rattle.packet.specs.Stores.{Stores}
 use Rattle.notices.specs.declared.Notice.{Notice}
 use Rattle.notices.specs.declared.Hearing.{Hearing}
-use Rattle.notices.specs.Stores.{store_after_notice}
+use Rattle.notices.specs.Stores.{stores_after_notice}
 use Rattle.notices.specs.Heard.{heard}
 use Rattle.receiver.specs.declared.Receiver.{Receiver}
 use Rattle.receiver.specs.declared.Told.{Told}
-use Rattle.receiver.specs.Reading.{passed, quiet_notice, read_scan, read_refusal, store_after_read, told_by_read, ReadCalled}
+use Rattle.receiver.specs.Reading.{passed, quiet_notice, read_scan, read_refusal, stores_after_read, told_by_read, ReadCalled}
 use Rattle.receiver.proofs.InRange.{arrays}
 use Rattle.receiver.proofs.ReadLaws.{told_by, some_refusal, framing_in_range_lem, from_least, packed, packet_lengths, ReadCalled_quiet, ReadCalled-packet}
 use Rattle.framing_layout.specs.FramingBytes.{framing_bytes, framing_in}
@@ -39,42 +40,42 @@ use Rattle.receiver_calls.proofs.InPlace.{framing_in_place, same_in_place}
 
 -- ---- a packet that is heard
 
-module _ (bytes store p : List ℕ) where
-  -- the notice, and the bytes of the record and the store then
-  abbrev Passed : Notice → List ℕ → List ℕ → Type 0
-  Passed n new new_store =
-      (n ≡ (passed (receiver_in bytes) store p).notice) × (new ≡ sets bytes 0 (receiver_bytes (passed (receiver_in bytes) store p).receiver))
-      × (new_store ≡ (passed (receiver_in bytes) store p).store)
+module _ (bytes : List ℕ) (l : Stores) (p : List ℕ) where
+  -- the notice, the bytes of the record and the stores then
+  abbrev Passed : Notice → List ℕ → Stores → Type 0
+  Passed n new after =
+      (n ≡ (passed (receiver_in bytes) l p).notice) × (new ≡ sets bytes 0 (receiver_bytes (passed (receiver_in bytes) l p).receiver))
+      × (after ≡ (passed (receiver_in bytes) l p).store)
 
-  pub passed_by : {h : Hearing} → h ≡ heard (receiver_in bytes).circuits (receiver_in bytes).slots p → {n : Notice} {new new_store : List ℕ} → n ≡ h.notice
+  pub passed_by : {h : Hearing} → h ≡ heard l.given (receiver_in bytes).circuits (receiver_in bytes).slots p → {n : Notice} {new : List ℕ} {after : Stores} → n ≡ h.notice
       → new ≡ sets bytes 0 (receiver_bytes (record { circuits = (receiver_in bytes).circuits; slots = h.slots; framing = (receiver_in bytes).framing }))
-      → new_store ≡ store_after_notice h.notice (receiver_in bytes).slots p store → Passed n new new_store
+      → after ≡ stores_after_notice h.notice (receiver_in bytes).slots p l → Passed n new after
   unfolding passed
   passed_by e told written stored = (told ∙ rw e, written ∙ rw e, stored ∙ rw e)
 
--- ---- what a call answers, and the bytes of the record, the store and the answer then
+-- ---- what a call answers, and the bytes of the record, the stores and the answer then
 
-module _ (bytes store bits : List ℕ) (from to : ℕ) (answer : List ℕ) where
-  abbrev CallRead : Result (Unit {0}) Refusal → List ℕ → List ℕ → List ℕ → Type 0
-  CallRead a new new_store new_answer =
-      (a ≡ answer_of (read_refusal (receiver_in bytes) store bits from to)) × (new ≡ record_after_read bytes store bits from to)
-      × (new_store ≡ store_after_read (receiver_in bytes) store bits from to) × (new_answer ≡ answer_after_read bytes store bits from to answer)
+module _ (bytes : List ℕ) (l : Stores) (bits : List ℕ) (from to : ℕ) (answer : List ℕ) where
+  abbrev CallRead : Result (Unit {0}) Refusal → List ℕ → Stores → List ℕ → Type 0
+  CallRead a new after new_answer =
+      (a ≡ answer_of (read_refusal (receiver_in bytes) l bits from to)) × (new ≡ record_after_read bytes l bits from to)
+      × (after ≡ stores_after_read (receiver_in bytes) l bits from to) × (new_answer ≡ answer_after_read bytes l bits from to answer)
 
-  pub call_refused : {k : Refusal} → answer_of (read_refusal (receiver_in bytes) store bits from to) ≡ Err k → CallRead (Err k) bytes store answer
-  unfolding record_after_read store_after_read answer_after_read
-  call_refused {k} e = let no = some_refusal (read_refusal (receiver_in bytes) store bits from to) k e in (sym e, rw no, rw no, rw no)
+  pub call_refused : {k : Refusal} → answer_of (read_refusal (receiver_in bytes) l bits from to) ≡ Err k → CallRead (Err k) bytes l answer
+  unfolding record_after_read stores_after_read answer_after_read
+  call_refused {k} e = let no = some_refusal (read_refusal (receiver_in bytes) l bits from to) k e in (sym e, rw no, rw no, rw no)
 
   -- an accepted call, on bytes that are a record's, of which the bits are scanned
-  module _ {u : Unit {0}} (ok : answer_of (read_refusal (receiver_in bytes) store bits from to) ≡ Ok u) where
-    none : read_refusal (receiver_in bytes) store bits from to ≡ 0
-    none = answer_of-Ok (read_refusal (receiver_in bytes) store bits from to) u ok
+  module _ {u : Unit {0}} (ok : answer_of (read_refusal (receiver_in bytes) l bits from to) ≡ Ok u) where
+    none : read_refusal (receiver_in bytes) l bits from to ≡ 0
+    none = answer_of-Ok (read_refusal (receiver_in bytes) l bits from to) u ok
 
-    told : {left : Receiver} {new_store : List ℕ} {a : Told} → ReadCalled (receiver_in bytes) store bits from to left new_store (Ok a)
+    told : {left : Receiver} {after : Stores} {a : Told} → ReadCalled (receiver_in bytes) l bits from to left after (Ok a)
         → {new new_answer : List ℕ} → new ≡ sets bytes 0 (receiver_bytes left) → new_answer ≡ sets answer 0 (read_answer_bytes a.notice a.bits)
-        → CallRead (Ok u) new new_store new_answer
+        → CallRead (Ok u) new after new_answer
     unfolding record_after_read answer_after_read told_by_read
     told {a = a} c written answered =
-        let (zero, is) = told_by (read_refusal (receiver_in bytes) store bits from to) _ a c.told in
+        let (zero, is) = told_by (read_refusal (receiver_in bytes) l bits from to) _ a c.told in
         (sym ok, written ∙ rw (none, c.receiver), c.store, answered ∙ rw (none, is))
 
     module _ (long : receiver_length ≤ length bytes) (are : Bytes bytes) where
@@ -84,7 +85,7 @@ module _ (bytes store bits : List ℕ) (from to : ℕ) (answer : List ℕ) where
       module _ {f : Framing} (g : f ≡ framing_in bytes 37) where
         pub framing_left : framing_in_range f ≡ true
         unfolding receiver_in
-        framing_left = rw g (framing_in_range_lem (receiver_in bytes) store bits from to none)
+        framing_left = rw g (framing_in_range_lem (receiver_in bytes) l bits from to none)
 
         module _ {s : Scan} (scanned : s ≡ scan f from (slice from to (bits_of bits))) where
           e : s ≡ scan (receiver_in bytes).framing from (slice from to (bits_of bits))
@@ -92,19 +93,19 @@ module _ (bytes store bits : List ℕ) (from to : ℕ) (answer : List ℕ) where
           e = scanned ∙ rw g
 
           pub from_first : from ≤ s.at
-          from_first = from_least (receiver_in bytes) store bits from to none e
+          from_first = from_least (receiver_in bytes) l bits from to none e
 
           left : length s.framing.bits ≡ 21
           unfolding read_scan
-          left = rw e (arrays (receiver_in bytes) store bits from to array).left.long
+          left = rw e (arrays (receiver_in bytes) l bits from to array).left.long
 
           module _ (is : is_receiver bytes ≡ true) where
             -- no packet passed
             pub call_quiet : OneOf (1 ∷ 2 ∷ []) (tag_of the_type s.check) → {n : Notice} → n ≡ quiet_notice s.check → {new new_answer : List ℕ}
                 → new ≡ sets bytes 37 (framing_bytes s.framing) → new_answer ≡ sets answer 0 (read_answer_bytes n (s.at - from))
-                → CallRead (Ok u) new store new_answer
+                → CallRead (Ok u) new l new_answer
             call_quiet t q written answered =
-                told (ReadCalled_quiet (receiver_in bytes) store bits from to none e t q)
+                told (ReadCalled_quiet (receiver_in bytes) l bits from to none e t q)
                 (written ∙ ap (λ b. sets b 37 (framing_bytes s.framing)) (sym (same_in_place bytes long are is))
                 ∙ framing_in_place bytes long (receiver_in bytes) array.long s.framing left)
                 answered
@@ -112,18 +113,18 @@ module _ (bytes store bits : List ℕ) (from to : ℕ) (answer : List ℕ) where
           -- a packet passed, and is heard
           module _ {n : ℕ} (p : s.check ≡ Packet n) where
             pub packet_within : n ≤ 19
-            packet_within = omega (arith, packed (receiver_in bytes) store bits from to none e p)
+            packet_within = omega (arith, packed (receiver_in bytes) l bits from to none e p)
 
             pub lengths : n ≤ length s.bytes → (2 ≤ length (take n s.bytes)) × (length (take n s.bytes) ≤ 19)
-            lengths inside = packet_lengths (receiver_in bytes) store bits from to none e p inside
+            lengths inside = packet_lengths (receiver_in bytes) l bits from to none e p inside
 
-            pub call_packet : {notice : Notice} {heard new_store : List ℕ} → Passed bytes store (take n s.bytes) notice heard new_store → {new new_answer : List ℕ}
+            pub call_packet : {notice : Notice} {heard : List ℕ} {after : Stores} → Passed bytes l (take n s.bytes) notice heard after → {new new_answer : List ℕ}
                 → new ≡ sets heard 37 (framing_bytes s.framing) → new_answer ≡ sets answer 0 (read_answer_bytes notice (s.at - from))
-                → CallRead (Ok u) new new_store new_answer
+                → CallRead (Ok u) new after new_answer
             unfolding passed receiver_in
             call_packet {notice} h written answered =
-                let after = (passed (receiver_in bytes) store (take n s.bytes)).receiver in
+                let receiver = (passed (receiver_in bytes) l (take n s.bytes)).receiver in
                 told
-                (ReadCalled-packet (receiver_in bytes) store bits from to none e p {left = after} {notice = notice} (h.0, refl, h.2))
-                (written ∙ ap (λ b. sets b 37 (framing_bytes s.framing)) h.1 ∙ framing_in_place bytes long after array.long s.framing left)
+                (ReadCalled-packet (receiver_in bytes) l bits from to none e p {left = receiver} {notice = notice} (h.0, refl, h.2))
+                (written ∙ ap (λ b. sets b 37 (framing_bytes s.framing)) h.1 ∙ framing_in_place bytes long receiver array.long s.framing left)
                 answered

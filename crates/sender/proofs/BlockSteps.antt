@@ -17,8 +17,9 @@ use Rattle.packet.specs.declared.Refusal.{Refusal}
 use Rattle.packet.specs.Answers.{answered, answer_of}
 use Rattle.packet.proofs.AnswerNumbers.{answered-Err}
 use Rattle.sender.proofs.MadeNumbers.{answer_of-Err}
+use Rattle.packet.specs.Stores.{Stores}
 use Rattle.offering.specs.declared.Sender.{Sender}
-use Rattle.offering.specs.Record.{store_length, in_range}
+use Rattle.offering.specs.Record.{in_range, LongEnough}
 use Rattle.sender.specs.declared.Block.{Block}
 use Rattle.sender.specs.declared.SystemPacket.{SystemPacket}
 use Rattle.sender.specs.Blocks.{
@@ -50,7 +51,7 @@ use Rattle.sender.proofs.InForce.{accepted-ruled_in_range}
 use Rattle.sender.proofs.BlockBits.{Closed-block_buffer}
 
 -- frames written behind those of any packets before them
-module _ (s : Sender) (store : List ℕ) (u : ℕ) (before : List (List ℕ)) (new_enable : Option ℕ) {old b₁ b₂ : List ℕ} {front : Framed} {after : Sender} {r : Block}
+module _ (s : Sender) (store : Stores) (u : ℕ) (before : List (List ℕ)) (new_enable : Option ℕ) {old b₁ b₂ : List ℕ} {front : Framed} {after : Sender} {r : Block}
     (opened : OpeningWritten old before b₁ front)
     (f : FramesWritten b₁ front (fill_up (ruled s new_enable) store front.at (ruled s new_enable).enable u) b₂ after r) where
   FramesWritten-block : FramesWritten b₁ front (block_filled s store u before new_enable) b₂ after r
@@ -74,7 +75,7 @@ module _ (s : Sender) (store : List ℕ) (u : ℕ) (before : List (List ℕ)) (n
       let ours = placed_packets (block_filled s store u before new_enable).frames in
       rw (added_in_frames_append before ours) (omega (arith, FramesWritten-block.zeros, opened.zeros))
 
-module _ (s : Sender) (store old : List ℕ) (n u : ℕ) (y : System) where
+module _ (s : Sender) (store : Stores) (old : List ℕ) (n u : ℕ) (y : System) where
   -- the record with these enable bits
   abbrev under : ℕ → Sender
   under enable = record { circuits = s.circuits; slots = s.slots; last = s.last; enable = enable }
@@ -93,14 +94,14 @@ module _ (s : Sender) (store old : List ℕ) (n u : ℕ) (y : System) where
     -- the opening is written
     module _ {b₁ : List ℕ} {front : Framed} (opened : OpeningWritten old (system_packets y) b₁ front) (l₁ : length b₁ ≡ length old) where
       pub before_frames : {enable : ℕ} → enable ≡ in_force s.enable (enable_bits y)
-          → (in_range (under enable) ≡ true)
-          × ((store_length ≤ length store) × ((front.zeros ≤ front.at) × (front.at ≤ u) × (u ≤ 8 * length b₁) × (u ≤ 27000)))
+          → (in_range store.given (under enable) ≡ true)
+          × ((LongEnough store) × ((front.zeros ≤ front.at) × (front.at ≤ u) × (u ≤ 8 * length b₁) × (u ≤ 27000)))
       unfolding ruled
       before_frames {enable} e =
           let few : front.zeros ≤ front.at = omega (arith, opened.zeros, opened.written.behind, added_within (system_packets y)) in
           let within : front.at ≤ u = omega (arith, opened.written.behind, length_opening y known.allowed, known) in
-          let range : in_range (under enable) ≡ true = rw e (accepted-ruled_in_range s store old n u y h) in
-          (range, (known.store_long, (few, within, omega (arith, l₁, known), omega (arith, known))))
+          let range : in_range store.given (under enable) ≡ true = rw e (accepted-ruled_in_range s store old n u y h) in
+          (range, (known.long_enough, (few, within, omega (arith, l₁, known), omega (arith, known))))
 
       -- and the frames are, under the enable bits in force
       module _ {enable : ℕ} {b₂ : List ℕ} {after : Sender} {r : Block} (e : enable ≡ in_force s.enable (enable_bits y))
@@ -142,7 +143,7 @@ module _ (s : Sender) (store old : List ℕ) (n u : ℕ) (y : System) where
     BlockCalled-made w = record { sender = w.sender; made = rw (h, ← w.placed, ← w.used, ← w.zeros); buffer = w.buffer }
 
 -- what a request asks for
-module _ (s : Sender) (store old : List ℕ) (n u : ℕ) (system : Option SystemPacket) (h : block_refusal s store old n u (asked system) ≡ 0) where
+module _ (s : Sender) (store : Stores) (old : List ℕ) (n u : ℕ) (system : Option SystemPacket) (h : block_refusal s store old n u (asked system) ≡ 0) where
   -- where a system packet is asked for, it is allowed
   allowed : (o : Option SystemPacket) → ((asked o).wanted ≡ true → Allowed (asked o).enable (asked o).code (asked o).information)
       → IfSome o (λ packet. Allowed packet.enable packet.code packet.information.now)

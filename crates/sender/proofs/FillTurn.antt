@@ -15,8 +15,9 @@ use Rattle.hdlc.specs.declared.zeros.Framed.{Framed}
 use Rattle.hdlc.proofs.AddedZeros.{length_flagged_added}
 use Rattle.hdlc.proofs.Ending.{length-flag}
 use Rattle.hdlc.proofs.Writing.{Written_append}
+use Rattle.packet.specs.Stores.{Stores}
 use Rattle.offering.specs.declared.Sender.{Sender}
-use Rattle.offering.specs.Record.{store_length, slot_at, pending, in_range}
+use Rattle.offering.specs.Record.{slot_at, pending, in_range, LongEnough}
 use Rattle.picking.specs.Picking.{pick, served}
 use Rattle.picking.proofs.PickingLaws.{served_in_range}
 use Rattle.writing.specs.NextFrame.{next_packet, next_frame}
@@ -26,7 +27,7 @@ use Rattle.sender.specs.Blocks.{frames_bits, added_in_frames, PlacedFrame, place
 use Rattle.sender.specs.BlockCalls.{FramesWritten}
 use Rattle.sender.proofs.Filling.{fill_up-step}
 
-module _ (s : Sender) (store : List ℕ) (at enable u : ℕ) (e : in_range s ≡ true) where
+module _ (s : Sender) (store : Stores) (at enable u : ℕ) (e : in_range store.given s ≡ true) where
   -- filling ends where none is picked, and where the frame that is would pass u
   fill_up-none : pick s enable ≡ None → fill_up s store at enable u ≡ full s
   unfolding placing
@@ -45,13 +46,13 @@ module _ (s : Sender) (store : List ℕ) (at enable u : ℕ) (e : in_range s ≡
     fill_up_more h = fill_up-step s store at enable u e ∙ rw (p, le-leb (at + length (next_frame s store c)) u h)
 
 -- the bit behind a circuit's next frame
-pub next_frame_end : (s : Sender) (store : List ℕ) (c : ℕ) {old new : List ℕ} {at : ℕ} {r : Framed} → FrameWritten old at (next_packet s store c) new r
+pub next_frame_end : (s : Sender) (store : Stores) (c : ℕ) {old new : List ℕ} {at : ℕ} {r : Framed} → FrameWritten old at (next_packet s store c) new r
     → r.at ≡ at + length (next_frame s store c)
 unfolding next_frame
 next_frame_end s store c w = w.written.behind
 
 -- the frame of a circuit at which a copy waits: where 209 bits are left it fits, it has room in 27 bytes, and its last bit's number is small
-module _ (s : Sender) (store : List ℕ) (c : ℕ) (range : in_range s ≡ true) (listed : c < s.circuits.count) (long : store_length ≤ length store)
+module _ (s : Sender) (store : Stores) (c : ℕ) (range : in_range store.given s ≡ true) (listed : c < s.circuits.count) (long : LongEnough store)
     (waits : pending (slot_at s c) ≡ true) where
   pub fits-longest : (at u : ℕ) → at + 209 ≤ u → true ≡ leb (at + length (next_frame s store c)) u
   fits-longest at u h = sym (le-leb (at + length (next_frame s store c)) u (omega (arith, length-next_frame s store c range listed long waits)))
@@ -62,7 +63,7 @@ module _ (s : Sender) (store : List ℕ) (c : ℕ) (range : in_range s ≡ true)
   pub next_frame_small : (at n : ℕ) → at ≤ 27000 → n ≡ 0 + length (next_frame s store c) → at + n < 2 ^ 64
   next_frame_small at n h e = omega (arith, length-next_frame s store c range listed long waits)
 
-next_frame_some : (s : Sender) (store : List ℕ) (c : ℕ) → 1 ≤ length (next_frame s store c)
+next_frame_some : (s : Sender) (store : Stores) (c : ℕ) → 1 ≤ length (next_frame s store c)
 unfolding next_frame
 next_frame_some s store c = rw length-append (omega (arith, length-flag))
 
@@ -90,10 +91,10 @@ FramesWritten-and_then p f after r w g =
     }
 
 -- to fill what is left from here, with the frames placed and the zeros added so far, is to fill all from the start
-pub record ToFill (old : List ℕ) (s₀ : Sender) (store : List ℕ) (front : Framed) (enable u : ℕ) (buffer : List ℕ) (s : Sender) (at placed zeros : ℕ)
+pub record ToFill (old : List ℕ) (s₀ : Sender) (store : Stores) (front : Framed) (enable u : ℕ) (buffer : List ℕ) (s : Sender) (at placed zeros : ℕ)
     : Type 0 where
   pub long : length buffer ≡ length old
-  pub range : in_range s ≡ true
+  pub range : in_range store.given s ≡ true
   pub within : at ≤ u
   pub few : placed ≤ at
   pub fewer : zeros ≤ at
@@ -101,7 +102,7 @@ pub record ToFill (old : List ℕ) (s₀ : Sender) (store : List ℕ) (front : F
       → FramesWritten buffer (record { at = at; zeros = zeros }) (fill_up s store at enable u) new after r
       → FramesWritten old front (fill_up s₀ store front.at enable u) new after (with_more placed r)
 
-pub ToFill_start : (old : List ℕ) (s : Sender) (store : List ℕ) (front : Framed) (enable u : ℕ) → in_range s ≡ true
+pub ToFill_start : (old : List ℕ) (s : Sender) (store : Stores) (front : Framed) (enable u : ℕ) → in_range store.given s ≡ true
     → front.zeros ≤ front.at → front.at ≤ u → ToFill old s store front enable u old s front.at 0 front.zeros
 ToFill_start old s store front enable u range fewer within =
     record {
@@ -113,7 +114,7 @@ ToFill_start old s store front enable u range fewer within =
       rest = λ new after r f. record { sender = f.sender; written = f.written; placed = zero-add r.placed ∙ f.placed; zeros = f.zeros };
     }
 
-module _ {old : List ℕ} {s₀ : Sender} {store : List ℕ} {front : Framed} {enable u : ℕ} {buffer : List ℕ} {s : Sender} {at placed zeros : ℕ}
+module _ {old : List ℕ} {s₀ : Sender} {store : Stores} {front : Framed} {enable u : ℕ} {buffer : List ℕ} {s : Sender} {at placed zeros : ℕ}
     (g : ToFill old s₀ store front enable u buffer s at placed zeros) where
   -- all is filled
   abbrev Done : Type 0
@@ -160,7 +161,7 @@ module _ {old : List ℕ} {s₀ : Sender} {store : List ℕ} {front : Framed} {e
         ToFill-step l =
             record {
               long = l ∙ g.long;
-              range = served_in_range s enable c g.range p;
+              range = served_in_range _ s enable c g.range p;
               within = omega (arith, fits, end);
               few = omega (arith, next_frame_some s store c, end, g.few);
               fewer = zeros_within;

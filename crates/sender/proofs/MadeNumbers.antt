@@ -3,28 +3,30 @@ use Rattle.std.proofs.Common.{◌≡◌, ℕ, ◌≤◌, Bool, true, false, List
 use Rattle.packet.specs.declared.Refusal.{Refusal}
 use Rattle.packet.specs.Answers.{refusal_of, answered, answer_of}
 use Rattle.packet.proofs.AnswerNumbers.{answer_number-answered}
+use Rattle.packet.specs.Stores.{Stores}
 use Rattle.offering.specs.declared.Sender.{Sender}
 use Rattle.sender.specs.Blocks.{System, block_refusal}
 use Rattle.sender.specs.BlockCalls.{made_of, made_number, answer_to_block}
 
-pub made_number-made_of : (n placed used zeros : ℕ) → n ≤ 17 → made_number (made_of n placed used zeros) ≡ n
+pub made_number-made_of : (n placed used zeros : ℕ) → n ≤ 19 → made_number (made_of n placed used zeros) ≡ n
 unfolding made_number made_of
 made_number-made_of n placed used zeros most = answer_number-answered n _ most
 
 -- so has the answer to a block call
-refused-most : (a b c d e : Bool) → cond a 14 (cond b 5 (cond c 11 (cond d 12 (cond e 13 0)))) ≤ 17
-refused-most true b c d e = omega arith
-refused-most false true c d e = omega arith
-refused-most false false true d e = omega arith
-refused-most false false false true e = omega arith
-refused-most false false false false true = omega arith
-refused-most false false false false false = omega arith
+refused-most : (a b c d e f : Bool) → cond a 14 (cond b 5 (cond c 19 (cond d 11 (cond e 12 (cond f 13 0))))) ≤ 19
+refused-most true b c d e f = omega arith
+refused-most false true c d e f = omega arith
+refused-most false false true d e f = omega arith
+refused-most false false false true e f = omega arith
+refused-most false false false false true f = omega arith
+refused-most false false false false false true = omega arith
+refused-most false false false false false false = omega arith
 
-block_refusal-most : (s : Sender) (store buffer : List ℕ) (n u : ℕ) (y : System) → block_refusal s store buffer n u y ≤ 17
+block_refusal-most : (s : Sender) (store : Stores) (buffer : List ℕ) (n u : ℕ) (y : System) → block_refusal s store buffer n u y ≤ 19
 unfolding block_refusal
-block_refusal-most s store buffer n u y = refused-most _ _ _ _ _
+block_refusal-most s store buffer n u y = refused-most _ _ _ _ _ _
 
-pub made_number-answer_to_block : (s : Sender) (store buffer : List ℕ) (n u : ℕ) (y : System)
+pub made_number-answer_to_block : (s : Sender) (store : Stores) (buffer : List ℕ) (n u : ℕ) (y : System)
     → made_number (answer_to_block s store buffer n u y) ≡ block_refusal s store buffer n u y
 unfolding answer_to_block
 made_number-answer_to_block s store buffer n u y = made_number-made_of _ _ _ _ (block_refusal-most s store buffer n u y)

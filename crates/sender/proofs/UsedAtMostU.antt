@@ -8,6 +8,7 @@ use lib.ListN.{length, take, length-append, length-replicate}
 use lib.Seq.{take_at}
 use Rattle.bits.specs.Bits.{bits_of, bytes_of}
 use Rattle.bits.proofs.Bits.{bits_of_append, bits_of-fill_bytes}
+use Rattle.packet.specs.Stores.{Stores}
 use Rattle.offering.specs.declared.Sender.{Sender}
 use Rattle.sender.specs.Blocks.{block_of, System, system_packets, enable_bits, used_bits, block_bits, block_buffer, block_refusal, buffer_after_block}
 use Rattle.sender.proofs.BlockRefusals.{Accepted, accepted}
@@ -22,7 +23,7 @@ take-block_buffer old bits n e =
     rw (bits_of_append, bits_of-fill_bytes ((length bits + 7) / 8) bits fits, append_assoc) (take_at bits _ n e)
 
 -- "A block has N user bits, of which U may be used"
-module _ (s : Sender) (store buffer : List ℕ) (n u : ℕ) (y : System) (e : block_refusal s store buffer n u y ≡ 0) where
+module _ (s : Sender) (store : Stores) (buffer : List ℕ) (n u : ℕ) (y : System) (e : block_refusal s store buffer n u y ≡ 0) where
   pub used_at_most_U : length (used_bits s store u (system_packets y) (enable_bits y)) ≤ u
   used_at_most_U =
       let a : Accepted s store buffer n u y = accepted s store buffer n u y e in

@@ -8,6 +8,7 @@ use mathlib.Core.Path.{◌≡◌, refl, sym}
 use lib.ListN.{length, length-append}
 use Rattle.hdlc.specs.Frames.{flag, frame}
 use Rattle.hdlc.proofs.AddedZeros.{length_flagged_added}
+use Rattle.packet.specs.Stores.{Stores}
 use Rattle.offering.specs.declared.Sender.{Sender}
 use Rattle.sender.specs.Blocks.{frames_bits, added_in_frames, flagged_frames, placed_packets, ruled, block_filled, block_packets, used_bits}
 use Rattle.sender.proofs.Filling.{fill_up_used}
@@ -35,7 +36,7 @@ pub added_within : (ps : List (List ℕ)) → added_in_frames ps ≤ length (fla
 unfolding flagged_frames
 added_within ps = rw length-append (omega (arith, added_in_frames_within ps))
 
-module _ (s : Sender) (store : List ℕ) (u : ℕ) (before : List (List ℕ)) (new_enable : Option ℕ) where
+module _ (s : Sender) (store : Stores) (u : ℕ) (before : List (List ℕ)) (new_enable : Option ℕ) where
   pub used_bits-behind : used_bits s store u before new_enable
       ≡ flagged_frames before ++ frames_bits (placed_packets (block_filled s store u before new_enable).frames)
   unfolding used_bits block_packets

@@ -7,6 +7,7 @@ use Rattle.hdlc.specs.Writing.{Written}
 use Rattle.hdlc.specs.declared.zeros.Framed.{Framed}
 use Rattle.packet.specs.declared.Refusal.{Refusal}
 use Rattle.packet.specs.Answers.{answered, answer_number}
+use Rattle.packet.specs.Stores.{Stores}
 use Rattle.offering.specs.declared.Sender.{Sender}
 use Rattle.sender.specs.declared.Block.{Block}
 use Rattle.sender.specs.declared.SystemPacket.{SystemPacket}
@@ -63,36 +64,36 @@ pub record Closed (old : List ℕ) (used n : ℕ) (new : List ℕ) : Type 0 wher
 unfoldable pub made_of : ℕ → ℕ → ℕ → ℕ → Result Block Refusal
 made_of refusal placed used zeros = answered refusal (record { placed = placed; used = used; zeros = zeros })
 
--- the number of an answer in document 01: 0 stands for a block
+-- the number of an answer in the documents: 0 stands for a block
 unfoldable pub made_number : Result Block Refusal → ℕ
 made_number made = answer_number made
 
 -- "frames placed (system excluded)", and "bits used, which are those before the closing ones"
-abbrev pub frames_placed : Sender → List ℕ → ℕ → System → ℕ
-frames_placed s store u y = length (block_filled s store u (system_packets y) (enable_bits y)).frames
+abbrev pub frames_placed : Sender → Stores → ℕ → System → ℕ
+frames_placed s l u y = length (block_filled s l u (system_packets y) (enable_bits y)).frames
 
-abbrev pub bits_used : Sender → List ℕ → ℕ → System → ℕ
-bits_used s store u y = length (used_bits s store u (system_packets y) (enable_bits y))
+abbrev pub bits_used : Sender → Stores → ℕ → System → ℕ
+bits_used s l u y = length (used_bits s l u (system_packets y) (enable_bits y))
 
 -- added zeros, "the sum over its frames, the system frame included"
-abbrev pub zeros_added : Sender → List ℕ → ℕ → System → ℕ
-zeros_added s store u y = added_in_frames (block_packets s store u (system_packets y) (enable_bits y))
+abbrev pub zeros_added : Sender → Stores → ℕ → System → ℕ
+zeros_added s l u y = added_in_frames (block_packets s l u (system_packets y) (enable_bits y))
 
-unfoldable pub answer_to_block : Sender → List ℕ → List ℕ → ℕ → ℕ → System → Result Block Refusal
-answer_to_block s store buffer n u y =
-    made_of (block_refusal s store buffer n u y) (frames_placed s store u y) (bits_used s store u y) (zeros_added s store u y)
+unfoldable pub answer_to_block : Sender → Stores → List ℕ → ℕ → ℕ → System → Result Block Refusal
+answer_to_block s l buffer n u y =
+    made_of (block_refusal s l buffer n u y) (frames_placed s l u y) (bits_used s l u y) (zeros_added s l u y)
 
 -- the block of an accepted call is written, `after` is the record then, and `r` tells of it
-pub record BlockWritten (s : Sender) (store old : List ℕ) (n u : ℕ) (y : System) (new : List ℕ) (after : Sender) (r : Block) : Type 0 where
-  pub sender : after ≡ sender_after_block s store old n u y
-  pub placed : r.placed ≡ frames_placed s store u y
-  pub used : r.used ≡ bits_used s store u y
-  pub zeros : r.zeros ≡ zeros_added s store u y
-  pub buffer : new ≡ buffer_after_block s store old n u y
+pub record BlockWritten (s : Sender) (l : Stores) (old : List ℕ) (n u : ℕ) (y : System) (new : List ℕ) (after : Sender) (r : Block) : Type 0 where
+  pub sender : after ≡ sender_after_block s l old n u y
+  pub placed : r.placed ≡ frames_placed s l u y
+  pub used : r.used ≡ bits_used s l u y
+  pub zeros : r.zeros ≡ zeros_added s l u y
+  pub buffer : new ≡ buffer_after_block s l old n u y
 
 -- what a block call returns and leaves
-pub record BlockCalled (s : Sender) (store old : List ℕ) (n u : ℕ) (y : System) (new : List ℕ) (after : Sender) (r : Result Block Refusal)
+pub record BlockCalled (s : Sender) (l : Stores) (old : List ℕ) (n u : ℕ) (y : System) (new : List ℕ) (after : Sender) (r : Result Block Refusal)
     : Type 0 where
-  pub sender : after ≡ sender_after_block s store old n u y
-  pub made : r ≡ answer_to_block s store old n u y
-  pub buffer : new ≡ buffer_after_block s store old n u y
+  pub sender : after ≡ sender_after_block s l old n u y
+  pub made : r ≡ answer_to_block s l old n u y
+  pub buffer : new ≡ buffer_after_block s l old n u y

@@ -1,8 +1,9 @@
--- Block making (document 01, "Blocks" and "Calls and their refusals"; document 02, asks 4 and 6).
+-- Block making (document 01, "Blocks" and "Calls and their refusals"; document 02, asks 4, 6 and 7).
 use Rattle.std.specs.Prelude.{ℕ, zero, suc, ◌+◌, ◌-◌, ◌*◌, ◌/◌, Bool, true, cond, not, ◌&&◌, ◌||◌, List, [], ◌∷◌, ◌++◌, map, length, drop, take, replicate, leb, ltb, eqb, Option, None, Some}
 use Rattle.bits.specs.Bits.{bytes_of}
 use Rattle.hdlc.specs.Frames.{flag, frame, added_in}
 use Rattle.packet.specs.Packets.{system_packet}
+use Rattle.packet.specs.Stores.{Stores, long_short}
 use Rattle.offering.specs.declared.Slot.{Slot}
 use Rattle.offering.specs.declared.Sender.{Sender}
 use Rattle.offering.specs.Record.{store_length, in_range}
@@ -53,18 +54,18 @@ unfoldable pub and_then : PlacedFrame → Filled → Filled
 and_then p f = record { sender = f.sender; frames = p ∷ f.frames }
 
 -- what a picked circuit gives: its next frame, and what comes later, unless "the picked frame and its flag would pass U"
-unfoldable pub placing : Option ℕ → Sender → List ℕ → ℕ → ℕ → (ℕ → Filled) → Filled
-placing None s store at u later = full s
-placing (Some c) s store at u later =
-    let more = and_then (record { number = c; packet = next_packet s store c }) (later c) in
-    cond (leb (at + length (next_frame s store c)) u) more (full s)
+unfoldable pub placing : Option ℕ → Sender → Stores → ℕ → ℕ → (ℕ → Filled) → Filled
+placing None s l at u later = full s
+placing (Some c) s l at u later =
+    let more = and_then (record { number = c; packet = next_packet s l c }) (later c) in
+    cond (leb (at + length (next_frame s l c)) u) more (full s)
 
 -- at most n frames, each with a flag after it, from bit `at` on
-unfoldable pub fill : ℕ → Sender → List ℕ → ℕ → ℕ → ℕ → Filled
-fill zero s store at enable u = full s
-fill (suc n) s store at enable u =
-    placing (pick s enable) s store at u
-    (λ c. fill n (served s c) store (at + length (next_frame s store c)) enable u)
+unfoldable pub fill : ℕ → Sender → Stores → ℕ → ℕ → ℕ → Filled
+fill zero s l at enable u = full s
+fill (suc n) s l at enable u =
+    placing (pick s enable) s l at u
+    (λ c. fill n (served s c) l (at + length (next_frame s l c)) enable u)
 
 -- the copies that wait in all
 unfoldable pub copies_in : List Slot → ℕ
@@ -75,8 +76,8 @@ unfoldable pub waiting : Sender → ℕ
 waiting s = copies_in (take s.circuits.count s.slots)
 
 -- "Picking ends when none waits or the picked frame and its flag would pass U": no more frames than copies wait (`fill_up-step`)
-unfoldable pub fill_up : Sender → List ℕ → ℕ → ℕ → ℕ → Filled
-fill_up s store at enable u = fill (waiting s) s store at enable u
+unfoldable pub fill_up : Sender → Stores → ℕ → ℕ → ℕ → Filled
+fill_up s l at enable u = fill (waiting s) s l at enable u
 
 -- ---- blocks
 
@@ -106,22 +107,22 @@ unfoldable pub ruled : Sender → Option ℕ → Sender
 ruled s new_enable = record { circuits = s.circuits; slots = s.slots; last = s.last; enable = in_force s.enable new_enable }
 
 -- our frames in a block, behind those of the packets before them, under the enable bits in force
-unfoldable pub block_filled : Sender → List ℕ → ℕ → List (List ℕ) → Option ℕ → Filled
-block_filled s store u before new_enable =
+unfoldable pub block_filled : Sender → Stores → ℕ → List (List ℕ) → Option ℕ → Filled
+block_filled s l u before new_enable =
     let under = ruled s new_enable in
-    fill_up under store (length (flagged_frames before)) under.enable u
+    fill_up under l (length (flagged_frames before)) under.enable u
 
 -- all packets in a block, in order
-unfoldable pub block_packets : Sender → List ℕ → ℕ → List (List ℕ) → Option ℕ → List (List ℕ)
-block_packets s store u before new_enable = before ++ placed_packets (block_filled s store u before new_enable).frames
+unfoldable pub block_packets : Sender → Stores → ℕ → List (List ℕ) → Option ℕ → List (List ℕ)
+block_packets s l u before new_enable = before ++ placed_packets (block_filled s l u before new_enable).frames
 
 -- the bits used, "which are those before the closing ones"
-unfoldable pub used_bits : Sender → List ℕ → ℕ → List (List ℕ) → Option ℕ → List Bool
-used_bits s store u before new_enable = flagged_frames (block_packets s store u before new_enable)
+unfoldable pub used_bits : Sender → Stores → ℕ → List (List ℕ) → Option ℕ → List Bool
+used_bits s l u before new_enable = flagged_frames (block_packets s l u before new_enable)
 
 -- its N bits
-unfoldable pub block_bits : Sender → List ℕ → ℕ → ℕ → List (List ℕ) → Option ℕ → List Bool
-block_bits s store n u before new_enable = block_of n (block_packets s store u before new_enable)
+unfoldable pub block_bits : Sender → Stores → ℕ → ℕ → List (List ℕ) → Option ℕ → List Bool
+block_bits s l n u before new_enable = block_of n (block_packets s l u before new_enable)
 
 -- "Bits fill bytes lowest first; spare bits of the last byte are 0; bytes behind it keep their values"
 unfoldable pub block_buffer : List ℕ → List Bool → List ℕ
@@ -141,21 +142,22 @@ short_buffer buffer n = ltb (8 * length buffer) n
 unfoldable pub wrong_system : System → Bool
 wrong_system y = y.wanted && (ltb 15 y.enable || ltb 8 y.code || ltb 15 (length y.information))
 
--- the refusal of a block call, the first that holds in the order of document 01; 0 if it is accepted
-unfoldable pub block_refusal : Sender → List ℕ → List ℕ → ℕ → ℕ → System → ℕ
-block_refusal s store buffer n u y =
-    cond (not (in_range s)) 14
-    (cond (ltb (length store) store_length) 5
+-- the refusal of a block call, the first that holds in the order of document 01, with "19 .. after 5" (document 02, ask 7); 0 if it is accepted
+unfoldable pub block_refusal : Sender → Stores → List ℕ → ℕ → ℕ → System → ℕ
+block_refusal s l buffer n u y =
+    cond (not (in_range l.given s)) 14
+    (cond (ltb (length l.store) store_length) 5
+    (cond (long_short l) 19
     (cond (wrong_size n u) 11
     (cond (short_buffer buffer n) 12
-    (cond (wrong_system y) 13 0))))
+    (cond (wrong_system y) 13 0)))))
 
 -- "All refusals return .. the record given, and leave every lent byte unchanged"; "A refused block changes nothing here" (document
 -- 02, ask 4)
-unfoldable pub sender_after_block : Sender → List ℕ → List ℕ → ℕ → ℕ → System → Sender
-sender_after_block s store buffer n u y =
-    cond (eqb (block_refusal s store buffer n u y) 0) (block_filled s store u (system_packets y) (enable_bits y)).sender s
+unfoldable pub sender_after_block : Sender → Stores → List ℕ → ℕ → ℕ → System → Sender
+sender_after_block s l buffer n u y =
+    cond (eqb (block_refusal s l buffer n u y) 0) (block_filled s l u (system_packets y) (enable_bits y)).sender s
 
-unfoldable pub buffer_after_block : Sender → List ℕ → List ℕ → ℕ → ℕ → System → List ℕ
-buffer_after_block s store buffer n u y =
-    cond (eqb (block_refusal s store buffer n u y) 0) (block_buffer buffer (block_bits s store n u (system_packets y) (enable_bits y))) buffer
+unfoldable pub buffer_after_block : Sender → Stores → List ℕ → ℕ → ℕ → System → List ℕ
+buffer_after_block s l buffer n u y =
+    cond (eqb (block_refusal s l buffer n u y) 0) (block_buffer buffer (block_bits s l n u (system_packets y) (enable_bits y))) buffer

@@ -5,7 +5,8 @@ ghost use Rattle.hdlc.specs.Writing.{Room, FrameWritten};
 ghost use Rattle.packet.specs.Packets.{system_packet};
 ghost use Rattle.packet.specs.Answers.{answer_of};
 ghost use Rattle.offering.specs.declared.Sender.{Sender};
-ghost use Rattle.offering.specs.Record.{store_length, slot_at, pending, in_range};
+ghost use Rattle.packet.specs.Stores.{stores, store_alone, stores_of};
+ghost use Rattle.offering.specs.Record.{slot_at, pending, in_range, LongEnough};
 ghost use Rattle.writing.specs.NextFrame.{next_frame};
 ghost use Rattle.sender.specs.Blocks.{fill_up, system_packets, enable_bits, in_force, wrong_system, block_refusal};
 ghost use Rattle.sender.specs.BlockCalls.{asked, Allowed, OpeningWritten, FramesWritten, Closed, BlockWritten, BlockCalled};
@@ -14,7 +15,7 @@ use crate::{Block, BlockRequest, SystemPacket};
 use hdlc::led::below;
 use hdlc::zeros::Framed;
 use offering::Sender;
-use packet::{Answer, Refusal};
+use packet::{Answer, Refusal, Stores};
 use picking::rule;
 
 // The longest frame of a packet, with its flag: 19 bytes and the FCS, stuffed.
@@ -48,39 +49,39 @@ fn put_opening(buf: &mut [u8], system: Option<SystemPacket<'_>>) -> Framed
 }
 
 // The frame that is next at a circuit, with its flag, does not pass u. Only near u is it measured, written into an array of its own.
-// Stays: (d) the facts are those that `writing::put_next` asks for: as a struct this is `fits(Next { sender, store, circuit }, at, u)`, and its one caller calls `put_next` with the three parts.
-fn fits(sender: Sender, store: &[u8], circuit: usize, at: usize, u: usize) -> bool
-    requires sender_value { in_range sender ≡ true }
+// Stays: (d) the facts are those that `writing::put_next` asks for: as a struct this is `fits(Next { sender, lent, circuit }, at, u)`, and its one caller calls `put_next` with the three parts.
+fn fits(sender: Sender, lent: Stores<'_>, circuit: usize, at: usize, u: usize) -> bool
+    requires sender_value { in_range lent.given sender ≡ true }
     requires circuit_lt_count { circuit < sender.circuits.count }
     requires circuit_value { pending (slot_at sender circuit) ≡ true }
-    requires store_length_in_bounds { store_length ≤ length store.now }
+    requires long_enough { LongEnough (stores_of lent) }
     requires at_le_u { (at ≤ u) × (u ≤ 27000) }
-    ensures { result ≡ leb (at + length (next_frame sender store.now circuit)) u }
+    ensures { result ≡ leb (at + length (next_frame sender (stores_of lent.entry) circuit)) u }
 {
     if at + LONGEST <= u {
         return true;
     }
     let mut scratch = [0u8; 27];
-    let measured = writing::put_next(&mut scratch, 0, sender, store, circuit);
+    let measured = writing::put_next(&mut scratch, 0, sender, lent, circuit);
     at + measured.at <= u
 }
 
 // Frames behind what is written already, each with a flag after it, until none waits or the next would pass u; the zeros are counted on from there.
-fn fill(buf: &mut [u8], sender: &mut Sender, store: &[u8], front: Framed, u: usize) -> Block
-    requires sender_value { in_range sender.old ≡ true }
-    requires store_length_in_bounds { store_length ≤ length store.now }
+fn fill(buf: &mut [u8], sender: &mut Sender, lent: Stores<'_>, front: Framed, u: usize) -> Block
+    requires sender_value { in_range lent.given sender.old ≡ true }
+    requires long_enough { LongEnough (stores_of lent) }
     requires zeros_le_at { (front.zeros ≤ front.at) × (front.at ≤ u) × (u ≤ 8 * length buf.old) × (u ≤ 27000) }
-    ensures { FramesWritten buf.old front (fill_up sender.old store.now front.at sender.old.enable u) buf.new sender.new result }
+    ensures { FramesWritten buf.old front (fill_up sender.old (stores_of lent.entry) front.at sender.old.enable u) buf.new sender.new result }
 {
     let enable = sender.enable;
     let mut used = front.at;
     let mut placed = 0;
     let mut zeros = front.zeros;
     while let Some(circuit) = rule::pick(*sender, enable) {
-        if !fits(*sender, store, circuit, used, u) {
+        if !fits(*sender, lent, circuit, used, u) {
             break;
         }
-        let framed = writing::put_next(buf, used, *sender, store, circuit);
+        let framed = writing::put_next(buf, used, *sender, lent, circuit);
         used = framed.at;
         zeros += framed.zeros;
         rule::serve(sender, circuit);
@@ -125,11 +126,14 @@ fn check_system(system: Option<SystemPacket<'_>>) -> Answer
 
 // A block call to a sender in range is refused, or not.
 #[tactic(auto, unfolding(crate::specs::Blocks::block_refusal, crate::specs::Blocks::wrong_size, crate::specs::Blocks::short_buffer, offering::specs::Record::store_length, packet::specs::Stores::region, packet::specs::Answers::answer_of, packet::specs::Answers::answered, packet::specs::Answers::refusal_of))]
-pub fn check_later(store: &[u8], buf: &[u8], request: &BlockRequest<'_>) -> Answer
-    ensures { (s : Sender) → in_range s ≡ true → result ≡ answer_of (block_refusal s store.now buf.now request.now.n request.now.u (asked request.now.system)) }
+pub fn check_later(lent: Stores<'_>, buf: &[u8], request: &BlockRequest<'_>) -> Answer
+    ensures { (s : Sender) → in_range lent.entry.given s ≡ true → result ≡ answer_of (block_refusal s (stores_of lent.entry) buf.now request.now.n request.now.u (asked request.now.system)) }
 {
-    if store.len() < Sender::STORE {
+    if lent.store.len() < Sender::STORE {
         return Err(Refusal::ShortStore);
+    }
+    if packet::long_short(lent.given, lent.long) {
+        return Err(Refusal::ShortLong);
     }
     if !(256..=27000).contains(&request.n) || !(256..=request.n).contains(&request.u) {
         return Err(Refusal::WrongSize);
@@ -142,44 +146,69 @@ pub fn check_later(store: &[u8], buf: &[u8], request: &BlockRequest<'_>) -> Answ
 
 // A block call is refused, or not.
 #[tactic(auto, unfolding(crate::specs::Blocks::block_refusal, packet::specs::Answers::answer_of, packet::specs::Answers::answered, packet::specs::Answers::refusal_of))]
-fn check(sender: &Sender, store: &[u8], buf: &[u8], request: &BlockRequest<'_>) -> Answer
-    ensures { result ≡ answer_of (block_refusal sender.now store.now buf.now request.now.n request.now.u (asked request.now.system)) }
+fn check(sender: &Sender, lent: Stores<'_>, buf: &[u8], request: &BlockRequest<'_>) -> Answer
+    ensures { result ≡ answer_of (block_refusal sender.now (stores_of lent.entry) buf.now request.now.n request.now.u (asked request.now.system)) }
 {
-    if !sender.in_range() {
+    if !sender.in_range(lent.given) {
         return Err(Refusal::OutOfRange);
     }
-    check_later(store, buf, request)
+    check_later(lent, buf, request)
 }
 
 // A block that no refusal stops.
 pub fn write_block(
     sender: &mut Sender,
-    store: &[u8],
+    lent: Stores<'_>,
     buf: &mut [u8],
     request: &BlockRequest<'_>,
 ) -> Block
-    requires { block_refusal sender.old store.now buf.old request.now.n request.now.u (asked request.now.system) ≡ 0 }
-    ensures { BlockWritten sender.old store.now buf.old request.now.n request.now.u (asked request.now.system) buf.new sender.new result }
+    requires { block_refusal sender.old (stores_of lent) buf.old request.now.n request.now.u (asked request.now.system) ≡ 0 }
+    ensures { BlockWritten sender.old (stores_of lent.entry) buf.old request.now.n request.now.u (asked request.now.system) buf.new sender.new result }
 {
     let opening = put_opening(buf, request.system);
     let enable = in_force(sender.enable, request.system);
     sender.enable = enable;
-    let block = fill(buf, sender, store, opening, request.u);
+    let block = fill(buf, sender, lent, opening, request.u);
     close(buf, block.used, request.n);
     block
 }
 
-// A block made into the buffer from the messages in the store, as the request asks for it: a system packet, if one is wanted, and the frames that
-// are next. The system packet's enable bits are in force from then on.
+// A block made into the buffer, as the request asks for it, or refused: a system packet, if one is wanted, and the frames that are next. The
+// system packet's enable bits are in force from then on.
+fn make(
+    sender: &mut Sender,
+    lent: Stores<'_>,
+    buf: &mut [u8],
+    request: &BlockRequest<'_>,
+) -> Result<Block, Refusal>
+    ensures { BlockCalled sender.old (stores_of lent.entry) buf.old request.now.n request.now.u (asked request.now.system) buf.new sender.new result }
+{
+    check(sender, lent, buf, request)?;
+    let block = write_block(sender, lent, buf, request);
+    Ok(block)
+}
+
+// A block made from the messages in the store, by an end that has no long buffer.
 pub fn make_block(
     sender: &mut Sender,
     store: &[u8],
     buf: &mut [u8],
     request: &BlockRequest<'_>,
 ) -> Result<Block, Refusal>
-    ensures { BlockCalled sender.old store.now buf.old request.now.n request.now.u (asked request.now.system) buf.new sender.new result }
+    ensures { BlockCalled sender.old (store_alone store.now) buf.old request.now.n request.now.u (asked request.now.system) buf.new sender.new result }
 {
-    check(sender, store, buf, request)?;
-    let block = write_block(sender, store, buf, request);
-    Ok(block)
+    make(sender, Stores::alone(store), buf, request)
+}
+
+// A block made from the messages in the store and in the long buffer, by an end that has it.
+pub fn make_block_beside(
+    sender: &mut Sender,
+    store: &[u8],
+    long: &[u8],
+    buf: &mut [u8],
+    request: &BlockRequest<'_>,
+) -> Result<Block, Refusal>
+    ensures { BlockCalled sender.old (stores store.now true long.now) buf.old request.now.n request.now.u (asked request.now.system) buf.new sender.new result }
+{
+    make(sender, Stores::beside(store, long), buf, request)
 }

@@ -2,6 +2,7 @@
 use mathlib.Core.Path.{◌≡◌, refl, sym, ap, ◌∙◌}
 use Prim.Native.Nat.{ℕ, zero, suc, ◌+◌, ◌*◌, ◌≤◌, ◌<◌}
 use native.Mathlib.Omega.{arith}
+use mathlib.Core.Bool.{Bool}
 use mathlib.Core.List.{List, [], ◌∷◌, ◌++◌}
 use lib.ListN.{length, drop, set, take-append-drop}
 use lib.Seq.{sets}
@@ -9,6 +10,7 @@ use Rattle.std.specs.List.{list_all}
 use Rattle.std.specs.List.{range_with_len}
 use Rattle.bits.specs.Bits.{Bytes}
 use Rattle.packet.specs.declared.Circuits.{Circuits}
+use Rattle.packet.specs.Stores.{longest_at}
 use Rattle.offering.specs.declared.Slot.{Slot}
 use Rattle.offering.specs.declared.Sender.{Sender}
 use Rattle.offering.specs.Record.{slot_at, slot_in_range, slots_in_range}
@@ -26,15 +28,15 @@ slot_there bytes (suc (suc (suc zero))) h = refl
 slot_there bytes (suc (suc (suc (suc c)))) h = absurd (omega arith)
 
 -- the first slots are tested where they lie
-pub slots_there : (bytes : List ℕ) (n : ℕ) → n ≤ 4
-    → list_all (λ i. slot_in_range (slot_in bytes (13 + 10 * i))) (range_with_len 0 n) ≡ slots_in_range n (sender_in bytes).slots
+pub slots_there : (given : Bool) (bytes : List ℕ) (n : ℕ) → n ≤ 4
+    → list_all (λ i. slot_in_range (longest_at given i) (slot_in bytes (13 + 10 * i))) (range_with_len 0 n) ≡ slots_in_range given 0 n (sender_in bytes).slots
 unfolding slots_in_range sender_in
-slots_there bytes zero h = refl
-slots_there bytes (suc zero) h = refl
-slots_there bytes (suc (suc zero)) h = refl
-slots_there bytes (suc (suc (suc zero))) h = refl
-slots_there bytes (suc (suc (suc (suc zero)))) h = refl
-slots_there bytes (suc (suc (suc (suc (suc n))))) h = absurd (omega arith)
+slots_there given bytes zero h = refl
+slots_there given bytes (suc zero) h = refl
+slots_there given bytes (suc (suc zero)) h = refl
+slots_there given bytes (suc (suc (suc zero))) h = refl
+slots_there given bytes (suc (suc (suc (suc zero)))) h = refl
+slots_there given bytes (suc (suc (suc (suc (suc n))))) h = absurd (omega arith)
 
 -- the record with another slot at a circuit
 abbrev with_slot : Sender → ℕ → Slot → Sender

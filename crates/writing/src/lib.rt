@@ -1,5 +1,5 @@
 // The frame of the first copy waiting at a circuit, written. No packet is kept in an array: what stands before the message's bytes is a number,
-// and each byte is stuffed from there or from the store.
+// and each byte is stuffed from there, from the store or from the long buffer.
 #![tactic(auto)]
 
 ghost use Rattle.std.specs.Prelude.{◌≡◌, true, [], ◌++◌, ◌≤◌, ◌<◌, length, slice_index_or};
@@ -7,14 +7,16 @@ ghost use Rattle.hdlc.specs.Frames.{flag, frame};
 ghost use Rattle.hdlc.specs.Leads.{led};
 ghost use Rattle.hdlc.specs.Writing.{Room, FrameWritten};
 ghost use Rattle.packet.specs.Circuits.{no_circuit};
-ghost use Rattle.offering.specs.Record.{store_length, slot_at, pending, slot_in_range, in_range, message_at};
+ghost use Rattle.packet.specs.Messages.{longest, longest_long};
+ghost use Rattle.packet.specs.Stores.{stores_of};
+ghost use Rattle.offering.specs.Record.{store_length, slot_at, pending, slot_in_range, in_range, message_of, message_at, LongEnough};
 ghost use Rattle.writing.specs.NextFrame.{next_packet, next_frame};
 ghost use Rattle.writing.specs.PacketParts.{packet_at, control_at, header_at, lead_of, part_at};
 
 use hdlc::led::below;
 use hdlc::zeros::Framed;
 use offering::{Sender, Slot};
-use packet::{Circuit, Link, Part};
+use packet::{Circuit, Link, Part, Stores};
 
 // Bytes that stand in a number, the first one lowest, and how many they are.
 // Stays: (a) fixed memory, no packet in an array: the bytes are stuffed out of the number (`led`, `hdlc::led::write_led`).
@@ -30,29 +32,42 @@ struct Waiting<'a> {
     circuit: Circuit,
     slot: Slot,
     message: &'a [u8],
-    ghost in_range: { slot_in_range slot ≡ true },
+    ghost in_range: { slot_in_range longest_long slot ≡ true },
     ghost waits: { pending slot ≡ true },
     ghost extended: { circuit.extended < 2 },
     ghost whole: { length message.now ≡ slot.length },
 }
 
+// A message of n bytes at a circuit: a long one at the start of the long buffer, any other at the start of the circuit's region.
+// Stays: (d) the lengths are asked of stores that have just been let pass, and the circuit of a record in range: a type for that would be taken apart again here.
+#[tactic(auto, unfolding(offering::specs::Record::message_of, offering::specs::Record::store_length, packet::specs::Stores::region, packet::specs::Messages::longest))]
+fn message_of(lent: Stores<'_>, circuit: usize, n: usize) -> &[u8]
+    requires { (circuit < 4) × (store_length ≤ length lent.store.now) × (longest < n → n ≤ length lent.long.now) }
+    ensures { result.now ≡ message_of (stores_of lent.entry) circuit n }
+{
+    if packet::LONGEST_MESSAGE < n {
+        return &lent.long[..n];
+    }
+    let from = Sender::REGION * circuit;
+    let to = from + n;
+    &lent.store[from..to]
+}
+
 impl<'a> Waiting<'a> {
-    // What waits first at a circuit of a sender; its message stands at the start of its region.
-    fn at(sender: &Sender, store: &'a [u8], circuit: usize) -> Waiting<'a>
-        requires sender_value { in_range sender.now ≡ true }
+    // What waits first at a circuit of a sender, with its message.
+    fn at(sender: &Sender, lent: Stores<'a>, circuit: usize) -> Waiting<'a>
+        requires sender_value { in_range lent.given sender.now ≡ true }
         requires circuit_lt_count { circuit < sender.now.circuits.count }
         requires circuit_value { pending (slot_at sender.now circuit) ≡ true }
-        requires store_length_in_bounds { store_length ≤ length store.now }
+        requires long_enough { LongEnough (stores_of lent) }
         ensures { (result.circuit ≡ slice_index_or sender.now.circuits.list circuit no_circuit) × (result.slot ≡ slot_at sender.now circuit)
-            × (result.message.now ≡ message_at sender.now store.now circuit) }
+            × (result.message.now ≡ message_at sender.now (stores_of lent.entry) circuit) }
     {
         let slot = sender.slots[circuit];
-        let from = Sender::REGION * circuit;
-        let to = from + slot.length as usize;
         Waiting {
             circuit: sender.circuits.list[circuit],
             slot,
-            message: &store[from..to],
+            message: message_of(lent, circuit, slot.length as usize),
         }
     }
 
@@ -138,14 +153,20 @@ impl<'a> Waiting<'a> {
 }
 
 // The frame of the first copy waiting at a circuit written at bit `at`, and the flag behind it.
-pub fn put_next(buf: &mut [u8], at: usize, sender: Sender, store: &[u8], circuit: usize) -> Framed
-    requires sender_value { in_range sender ≡ true }
+pub fn put_next(
+    buf: &mut [u8],
+    at: usize,
+    sender: Sender,
+    lent: Stores<'_>,
+    circuit: usize,
+) -> Framed
+    requires sender_value { in_range lent.given sender ≡ true }
     requires circuit_lt_count { circuit < sender.circuits.count }
     requires circuit_value { pending (slot_at sender circuit) ≡ true }
-    requires store_length_in_bounds { store_length ≤ length store.now }
-    requires room { Room buf.old at (next_frame sender store.now circuit) }
-    ensures { FrameWritten buf.old at (next_packet sender store.now circuit) buf.new result }
+    requires long_enough { LongEnough (stores_of lent) }
+    requires room { Room buf.old at (next_frame sender (stores_of lent) circuit) }
+    ensures { FrameWritten buf.old at (next_packet sender (stores_of lent.entry) circuit) buf.new result }
 {
-    let waiting = Waiting::at(&sender, store, circuit);
+    let waiting = Waiting::at(&sender, lent, circuit);
     waiting.put(buf, at)
 }

@@ -262,6 +262,14 @@ fn words_and_numbers() {
             Refusal::PacketLength,
             "refusal 17: a packet outside 2 to 19 bytes",
         ),
+        (
+            Refusal::LongMessageLength,
+            "refusal 18: length outside 4,095 to 65,535 bytes",
+        ),
+        (
+            Refusal::LongBufferTooShort,
+            "refusal 19: long buffer too short",
+        ),
     ];
     for (number, (refusal, words)) in (1..).zip(words) {
         assert_eq!(refusal.number(), number);

@@ -87,7 +87,7 @@ impl History {
         };
         let past = &mut self.circuits[number];
         let since = past.last.map(|last| free - last);
-        let dropped = past.open.is_some_and(|open| is_dropped(open, loss, fate));
+        let dropped = past.open.is_some() && is_dropped(loss, fate);
         past.last = Some(free);
         past.open = listener.open(number);
         if fate == Fate::Begun {
@@ -121,15 +121,18 @@ impl History {
     }
 }
 
+/// Bytes of the longest message that is whole in its only packet: it has a header of one byte.
+const LONGEST_OF_ONE: usize = 15;
+
 /// Whether a packet with that loss and fate drops the message that was open before it. A copy changes nothing; a loss always drops it. A message that is
 /// begun has 16 bytes or more, as its first packet has room for 14 behind a header of two bytes and one of up to 15 bytes, whose header has one, is
-/// whole in its only packet. So a Whole of the open message's length completes it, and any other is a message of one packet, which drops it.
-fn is_dropped(open: Open, loss: u8, fate: Fate) -> bool {
+/// whole in its only packet. So a Whole of 16 bytes or more completes the open message, and any other is a message of one packet, which drops it.
+fn is_dropped(loss: u8, fate: Fate) -> bool {
     match fate {
         Fate::Copy => false,
         _ if loss > 0 => true,
         Fate::Held => false,
-        Fate::Whole(length) => length != open.length,
+        Fate::Whole(length) => length <= LONGEST_OF_ONE,
         Fate::Begun | Fate::Orphan | Fate::Wrong => true,
     }
 }

@@ -116,10 +116,14 @@ pub fn modulo_words(places: u64) -> String {
     format!("known only modulo 8: {}", count(places, "place"))
 }
 
-/// A message that is open at the end.
+/// A message that is open at the end. The length of a long one is not known before that.
 pub fn unfinished_words(account: &Account, message: &Unfinished) -> String {
     let (circuit, unit) = (account.circuit(message.number), account.unit.name());
     let (received, length) = (message.open.received, message.open.length);
+    let length = match message.open.is_long() {
+        true => format!("at most {length}"),
+        false => length.to_string(),
+    };
     format!(
         "{circuit}: open at the end, {received} of {length} bytes, begun by the frame before {unit} {}",
         message.begun

@@ -177,7 +177,11 @@ impl Serialize for OpenObject<'_> {
         let number = message.number;
         circuit(&mut members, number, account.circuit(number))?;
         members.serialize_entry("received", &message.open.received)?;
-        members.serialize_entry("length", &message.open.length)?;
+        let length = match message.open.is_long() {
+            true => "at_most",
+            false => "length",
+        };
+        members.serialize_entry(length, &message.open.length)?;
         members.serialize_entry(account.unit.name(), &message.begun)?;
         members.end()
     }

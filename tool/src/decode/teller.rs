@@ -57,14 +57,12 @@ impl Teller {
         written(self.form.listening(&mut self.told, listening))
     }
 
-    /// Counts a notice, files its message and tells it.
-    pub fn tell(&mut self, heard: &Heard, store: &[u8]) -> Result<(), Error> {
+    /// Counts a notice, files its message and tells it. The bytes are the message at Whole, the information at System.
+    pub fn tell(&mut self, heard: &Heard, bytes: Option<&[u8]>) -> Result<(), Error> {
         self.account.notice(heard);
-        let notice = heard.notice;
-        let message = notice.message(store);
-        let file = match (&notice, message, &mut self.folder) {
+        let file = match (heard.notice, bytes, &mut self.folder) {
             (Notice::Circuit { number, .. }, Some(message), Some(folder)) => {
-                Some(folder.write(self.circuits[*number], message)?)
+                Some(folder.write(self.circuits[number], message)?)
             }
             _ => None,
         };
@@ -73,7 +71,7 @@ impl Teller {
             place: self.read,
             heard,
             circuits: &self.circuits,
-            bytes: message.or_else(|| notice.information(store)),
+            bytes,
             file: file.as_deref(),
         };
         written(self.form.notice(&mut self.told, &told))?;

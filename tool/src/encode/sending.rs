@@ -2,7 +2,7 @@
 
 use std::array;
 
-use aes18::{Block, Refusal, Sender, SystemPacket, SENDER_STORE};
+use aes18::{Block, Refusal, Sender, SystemPacket, LONGEST_MESSAGE, LONG_BUFFER, SENDER_STORE};
 
 use super::plan::{Action, Offer, Plan, System};
 use crate::circuits::MOST_CIRCUITS;
@@ -30,6 +30,8 @@ pub struct Made<'a> {
 pub struct Sending {
     sender: Sender,
     store: Vec<u8>,
+    /// It is given in every call.
+    long_buffer: Vec<u8>,
     /// The priority of the last message at each circuit, by number.
     priorities: [u8; MOST_CIRCUITS],
 }
@@ -47,9 +49,10 @@ pub fn send(
             Action::Offer(offer) => sending.offer(offer).map_err(refused)?,
             Action::Block { n, u, system } => {
                 let system = system.as_ref().map(System::packet);
+                let (store, long_buffer) = (&sending.store, &sending.long_buffer);
                 let block = sending
                     .sender
-                    .block(&sending.store, *n, *u, system, &mut bytes)
+                    .block_beside(store, long_buffer, *n, *u, system, &mut bytes)
                     .map_err(|refusal| refused(refusal.to_string()))?;
                 hand_over(Made {
                     line: step.line,
@@ -73,37 +76,53 @@ impl Sending {
         Ok(Sending {
             sender,
             store: vec![0; SENDER_STORE],
+            long_buffer: vec![0; LONG_BUFFER],
             priorities: [0; MOST_CIRCUITS],
         })
     }
 
-    /// Offers a message; an error says why it is refused.
+    /// Offers a message, at circuit 0 one above 4,094 bytes as a long one; an error says why it is refused.
     fn offer(&mut self, offer: &Offer) -> Result<(), String> {
-        let circuit = offer.circuit as usize;
-        self.sender
-            .offer(
-                &mut self.store,
-                offer.circuit,
-                offer.priority,
-                offer.repetition,
-                &offer.message,
-            )
-            .map_err(|refusal| self.refused(refusal, circuit))?;
-        self.priorities[circuit] = offer.priority as u8;
+        let Offer {
+            circuit,
+            priority,
+            repetition,
+            ref message,
+        } = *offer;
+        let (store, long_buffer) = (&mut self.store, &mut self.long_buffer);
+        let offered = match circuit == 0 && message.len() > LONGEST_MESSAGE {
+            true => self
+                .sender
+                .offer_long(store, long_buffer, priority, repetition, message),
+            false => {
+                self.sender
+                    .offer_beside(store, long_buffer, circuit, priority, repetition, message)
+            }
+        };
+        let circuit = circuit as usize;
+        offered.map_err(|refusal| self.refused(refusal, circuit))?;
+        self.priorities[circuit] = priority as u8;
         Ok(())
     }
 
-    /// The words of an offer's refusal; of an earlier message they say how many of its packets are still to go and, where it is held back, why.
+    /// The words of an offer's refusal. Of a message that is too long they say which circuit takes a longer one; of an earlier message how many of its
+    /// packets are still to go and, where it is held back, why.
     fn refused(&self, refusal: Refusal, circuit: usize) -> String {
-        if refusal != Refusal::MessagePending {
-            return refusal.to_string();
+        match refusal {
+            Refusal::MessageTooLong => {
+                format!("{refusal}; only circuit 0 takes longer ones, up to 65,535 bytes")
+            }
+            Refusal::LongMessageLength => format!("{refusal}; no circuit takes a longer one"),
+            Refusal::MessagePending => {
+                let left = count(self.left(circuit), "packet");
+                let why = match self.held_back(circuit) {
+                    Some(why) => format!("; its {why}"),
+                    None => String::new(),
+                };
+                format!("{refusal}, {left} of it still to go{why}")
+            }
+            _ => refusal.to_string(),
         }
-        let left = count(self.left(circuit), "packet");
-        let why = match self.held_back(circuit) {
-            Some(why) => format!("; its {why}"),
-            None => String::new(),
-        };
-        format!("{refusal}, {left} of it still to go{why}")
     }
 
     /// The enable bits in force.

@@ -4,7 +4,7 @@ use std::fs::File;
 use std::io::Read;
 use std::path::Path;
 
-use aes18::LONGEST_MESSAGE;
+use aes18::LONGEST_LONG_MESSAGE;
 
 /// A word: plain, a quoted text with its escapes undone, or a file's name behind `@`.
 #[derive(Debug, PartialEq, Eq)]
@@ -103,7 +103,7 @@ fn file(path: &Path) -> Result<Vec<u8>, String> {
     let mut bytes = Vec::new();
     File::open(path)
         .and_then(|file| {
-            file.take(LONGEST_MESSAGE as u64 + 1)
+            file.take(LONGEST_LONG_MESSAGE as u64 + 1)
                 .read_to_end(&mut bytes)
         })
         .map_err(|error| {

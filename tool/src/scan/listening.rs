@@ -21,14 +21,15 @@ use crate::progress::Progress;
 /// The most circuits not listened to that are named to people.
 const NAMED: usize = 8;
 
-/// The circuits of a file that was scanned, each with its packets: those listened to and the others.
+/// The circuits of a file that was scanned, each with its packets: those listened to, by number, and the others.
 pub struct Listening {
     to: Vec<(Circuit, u64)>,
     not_to: Vec<(Circuit, u64)>,
 }
 
 impl Listening {
-    /// Scans a file of user bits: the four circuits with most packets are listened to, of those with as many those heard first.
+    /// Scans a file of user bits: the four circuits with most packets are listened to, of those with as many those heard first. A circuit that sends
+    /// long messages, of several the one with most packets, is number 0 before all others, since only that number takes them.
     pub fn in_bits(file: &OsStr, formats: Formats) -> Result<Listening, Error> {
         survey(file, Content::Bits(formats), |survey, chunk| {
             survey.read(chunk.bytes, chunk.bits).map(|_| ())
@@ -133,7 +134,10 @@ fn survey(
         read(&mut survey, &chunk)?;
         progress.add(chunk.read);
     }
-    let heard = survey.ranked();
+    let mut heard = survey.ranked();
+    if let Some(place) = heard.iter().position(|heard| heard.long) {
+        heard[..=place].rotate_right(1);
+    }
     let mut to: Vec<(Circuit, u64)> = heard
         .iter()
         .map(|heard| (heard.circuit, heard.packets))

@@ -6,6 +6,7 @@ use std::collections::HashMap;
 use aes18::{Circuit, Packet};
 
 use crate::account::{Account, Unit};
+use crate::circuits;
 use crate::error::Error;
 use crate::extents::{Kind, Stretch};
 use crate::frames::FLAG_BITS;
@@ -39,6 +40,8 @@ pub struct HeardCircuit {
     pub from: u64,
     /// The bit behind the last frame, which ends with a flag.
     pub to: u64,
+    /// Whether a packet has the header of a long message.
+    pub long: bool,
     last: Packet,
     /// How much stood in no frame before the last packet.
     free: u64,
@@ -118,6 +121,7 @@ impl Survey {
                     modulo: 0,
                     from: self.frame(),
                     to: self.bits,
+                    long: circuits::begins_long(&packet),
                     last: packet,
                     free,
                 });
@@ -159,6 +163,7 @@ impl HeardCircuit {
         let doubtful = free - self.free >= Unit::Bit.doubtful();
         self.modulo += u64::from(doubtful);
         self.to = to;
+        self.long |= circuits::begins_long(&packet);
         self.last = packet;
         self.free = free;
         doubtful

@@ -313,11 +313,6 @@ fn refused_calls() {
                 2,
                 "refusal 8: repetition above 5",
             ),
-            (
-                "circuits 1\noffer 0 0 0 @long",
-                2,
-                "refusal 9: message above 4,094 bytes",
-            ),
             ("circuits 1\noffer 0 0 0 -\noffer 0 0 0 -", 3, pending),
             ("circuits 1\nblock 255 255", 2, bits),
             ("circuits 1\nblock 256 256\nblock 99999999999 256", 3, bits),

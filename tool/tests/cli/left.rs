@@ -67,7 +67,7 @@ fn several_circuits() {
     assert!(!told.contains("warning"), "{told}");
 }
 
-/// At the end the packets of an offer behind the last block are still to go, from one of a message without bytes to 256 of the longest.
+/// At the end the packets of an offer behind the last block are still to go, from one of a message without bytes to 4,097 of the longest.
 #[test]
 fn messages_of_any_length() {
     let folder = Folder::new("lengths");
@@ -81,6 +81,11 @@ fn messages_of_any_length() {
         (4078, "255 packets"),
         (4079, "256 packets"),
         (4094, "256 packets"),
+        (4095, "257 packets"),
+        (4110, "257 packets"),
+        (4111, "258 packets"),
+        (65_534, "4096 packets"),
+        (65_535, "4097 packets"),
     ] {
         folder.write("message", vec![0; length]);
         let ran = folder.run(&["encode", "plan", "-o", "bits"]);

@@ -11,6 +11,7 @@ mod gaps;
 mod left;
 mod line;
 mod long;
+mod long_messages;
 mod runs;
 mod scan;
 mod signals;

@@ -64,8 +64,21 @@ fn what_the_helps_say() {
             "A packet is still to go until its last copy is placed.",
         ),
         (
+            "encode",
+            "A message has at most 4,094 bytes, at circuit 0 at most 65,535.",
+        ),
+        (
             "decode",
             "in its block and all later ones until another system packet,",
+        ),
+        ("decode", "Only circuit number 0 takes it;"),
+        (
+            "decode",
+            "is number 0 before all others; of several the one with most packets.",
+        ),
+        (
+            "show",
+            "is number 0 before all others; of several the one with most packets.",
         ),
     ] {
         let told = folder.run(&[subcommand, "--help"]).told();

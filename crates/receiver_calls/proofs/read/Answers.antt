@@ -1,6 +1,7 @@
 -- `receiver_calls::read` meets its contract: a refusal leaves all as it was, and otherwise the bits are scanned, and a packet that passed is heard.
 use Rattle.std.proofs.Common.{sym, ◌∙◌, rules, arith}
 use Rattle.bits.proofs.Bits.{Bytes_each}
+use Rattle.packet.specs.Stores.{stores}
 use Rattle.receiver.proofs.ReadLaws.{accepts, accepted, quiet_check}
 use Rattle.receiver_calls.proofs.ReadingLaws.{call_refused, framing_left, from_first, packet_within, lengths, call_quiet, call_packet}
 use Rattle.receiver_calls.proofs.read.Goals as goal
@@ -8,7 +9,7 @@ use Rattle.receiver_calls.proofs.read.Goals.{in-Packet, in_default}
 
 pub returns-in_err-check : goal.returns-in_err-check
 returns-in_err-check c =
-    let e = call_refused _ _ _ _ _ c.args.answer.now (sym c.check.ensures ∙ c.in_err-check.was) in
+    let e = call_refused _ (stores c.args.store.now c.args.given c.args.long.now) _ _ _ c.args.answer.now (sym c.check.ensures ∙ c.in_err-check.was) in
     search rules
 
 pub invariant_of-stretch : goal.invariant_of-stretch
@@ -41,19 +42,19 @@ new-requires c =
 pub hear-notice-requires : goal.hear-notice-requires
 hear-notice-requires c =
     let known = accepted _ _ _ _ _ (accepts c.check.ensures c.in_ok-check.was) in
-    (c.requires.0, c.requires.1, known.range, known.long)
+    (c.requires.0, c.requires.1, known.range, known.enough, known.long)
 
 pub returns : goal.returns
 returns c =
     let ok = sym c.check.ensures ∙ c.in_ok-check.was in
     elim c.match-scan.branch [
       | in-Packet w ↦
-          rw w.store-is
+          rw (w.store-is, w.long-is)
           (call_packet _ _ _ _ _ c.args.answer.now ok c.requires.0 (Bytes_each c.args.«record».now (λ i. search rules)) c.framing_in.ensures
           c.scan_left-scan.ensures w.in-Packet.is (rw w.new.ensures at w.hear-notice.ensures) (rw w.record-is at c.put_framing.ensures)
           (rw w.notice-is at c.put_read_answer.ensures))
       | in_default w ↦
-          rw w.store-is
+          rw (w.store-is, w.long-is)
           (call_quiet _ _ _ _ _ c.args.answer.now ok c.requires.0 (Bytes_each c.args.«record».now (λ i. search rules)) c.framing_in.ensures
           c.scan_left-scan.ensures c.requires.1 (quiet_check _ w.in_default.not-Packet) w.quiet_notice-notice.ensures
           (rw w.record-is at c.put_framing.ensures) (rw w.notice-is at c.put_read_answer.ensures))

@@ -8,13 +8,13 @@ use Rattle.sender_calls.proofs.check_offer.Goals as goal
 
 pub slot_in-requires : goal.slot_in-requires
 slot_in-requires c =
-    let range : in_range (sender_in c.args.«record».now) ≡ true = sym c.in_range.ensures ∙ c.if-not-in_range.false in
+    let range : in_range c.args.given (sender_in c.args.«record».now) ≡ true = sym c.in_range.ensures ∙ c.if-not-in_range.false in
     omega (arith, c.requires, circuit_there _ _ _ _ _ _ range c.from.ensures _ (sym c.check_bounds.ensures ∙ c.in_ok-check_bounds.was))
 
 pub returns-then-pending : goal.returns-then-pending
 unfolding answer_of answered refusal_of
 returns-then-pending c =
-    let range : in_range (sender_in c.args.«record».now) ≡ true = sym c.in_range.ensures ∙ c.if-not-in_range.false in
+    let range : in_range c.args.given (sender_in c.args.«record».now) ≡ true = sym c.in_range.ensures ∙ c.if-not-in_range.false in
     rw (
       pending_there _ _ _ _ _ _ range c.from.ensures _ (sym c.check_bounds.ensures ∙ c.in_ok-check_bounds.was) (c.pending.ensures ∙ rw c.slot_in.ensures refl),
       c.if-pending.true,
@@ -23,7 +23,7 @@ returns-then-pending c =
 pub returns : goal.returns
 unfolding answer_of answered refusal_of
 returns c =
-    let range : in_range (sender_in c.args.«record».now) ≡ true = sym c.in_range.ensures ∙ c.if-not-in_range.false in
+    let range : in_range c.args.given (sender_in c.args.«record».now) ≡ true = sym c.in_range.ensures ∙ c.if-not-in_range.false in
     rw (
       pending_there _ _ _ _ _ _ range c.from.ensures _ (sym c.check_bounds.ensures ∙ c.in_ok-check_bounds.was) (c.pending.ensures ∙ rw c.slot_in.ensures refl),
       c.if-pending.false,

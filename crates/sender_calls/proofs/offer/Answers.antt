@@ -1,7 +1,9 @@
 -- `sender_calls::offer` meets its contract: a refusal leaves all as it was; otherwise the message lies in its circuit's region, and the slot is written.
-use Rattle.std.proofs.Common.{sym, refl, rules}
+use Rattle.std.proofs.Common.{sym, ap, refl, rules}
 use Rattle.std.proofs.lemmas.Result.{err_from_is_err_and}
 use Rattle.bits.proofs.Bits.{Bytes_each}
+use Rattle.packet.specs.Stores.{stores}
+use Rattle.offering.specs.Offering.{offered_stores}
 use Rattle.sender_calls.proofs.OffersInPlace.{offer_refused, room, offer-accepted}
 use Rattle.sender_calls.proofs.offer.Goals as goal
 
@@ -16,6 +18,7 @@ accept-requires c =
     (c.requires, four, short, fits)
 
 pub returns : goal.returns
+unfolding offered_stores
 returns c =
     offer-accepted _ _ _ _ _ _ _ (sym c.in_ok-check_offer.ensures) (Bytes_each _ (λ i. search rules)) c.requires refl
-    c.accept.ensures.0 c.accept.ensures.1
+    c.accept.ensures.0 (ap (λ bytes. stores bytes c.args.given c.args.long.now) c.accept.ensures.1)

@@ -58,5 +58,5 @@ returns-else-best-eq0 c =
     let all : c.loop-circuit.circuit ≡ 4 = omega arith in
     let (small, e) = c.loop-circuit.invariant.kept (omega (arith, c.if-best-eq0.false)) in
     sym
-    (pick_best a.sender a.enable c.loop-circuit.picked c.requires small (rw e (omega (arith, c.if-best-eq0.false)))
+    (pick_best a.sender a.enable true c.loop-circuit.picked c.requires small (rw e (omega (arith, c.if-best-eq0.false)))
     (λ d m. rw e (c.loop-circuit.invariant.most d (rw all m))))

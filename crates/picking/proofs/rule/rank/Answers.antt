@@ -1,5 +1,5 @@
 -- `picking::rule::rank` meets its contract, test by test.
-use Rattle.std.proofs.Common.{◌≤◌, sym, ◌∙◌, arith}
+use Rattle.std.proofs.Common.{◌≤◌, true, sym, ◌∙◌, arith}
 use Rattle.offering.specs.Record.{no_slot, slot_at}
 use Rattle.offering.proofs.Ranges.{slot_in_range_facts, in_range_facts, slot_in_range-slot_at}
 use Rattle.picking.proofs.PickingLaws.{rank_unlisted, rank_disabled, rank-none, rank_waits}
@@ -14,7 +14,7 @@ pub enabled-requires : goal.enabled-requires
 unfolding slot_at no_slot
 enabled-requires c =
     let priority : (slot_at c.args.sender c.args.circuit).priority ≤ 3 =
-    (slot_in_range_facts _ (slot_in_range-slot_at c.args.sender c.args.circuit c.requires.sender_value c.if-sender-circuit.false)).priority in
+    (slot_in_range_facts _ (slot_in_range-slot_at true c.args.sender c.args.circuit c.requires.sender_value c.if-sender-circuit.false)).priority in
     omega (arith, priority)
 
 pub returns-then-not-enabled : goal.returns-then-not-enabled
@@ -39,14 +39,14 @@ pub overflow_mul-result : goal.overflow_mul-result
 unfolding slot_at no_slot
 overflow_mul-result c =
     let priority : (slot_at c.args.sender c.args.circuit).priority ≤ 3 =
-    (slot_in_range_facts _ (slot_in_range-slot_at c.args.sender c.args.circuit c.requires.sender_value c.if-sender-circuit.false)).priority in
+    (slot_in_range_facts _ (slot_in_range-slot_at true c.args.sender c.args.circuit c.requires.sender_value c.if-sender-circuit.false)).priority in
     record { fits = omega (arith, priority) }
 
 pub overflow_add-result : goal.overflow_add-result
 unfolding slot_at no_slot
 overflow_add-result c =
     let priority : (slot_at c.args.sender c.args.circuit).priority ≤ 3 =
-    (slot_in_range_facts _ (slot_in_range-slot_at c.args.sender c.args.circuit c.requires.sender_value c.if-sender-circuit.false)).priority in
+    (slot_in_range_facts _ (slot_in_range-slot_at true c.args.sender c.args.circuit c.requires.sender_value c.if-sender-circuit.false)).priority in
     record { fits = omega (arith, priority) }
 
 pub returns : goal.returns

@@ -12,7 +12,7 @@ put_opening-opening-requires c =
 pub fill-block-requires : goal.fill-block-requires
 fill-block-requires c =
     let before = before_frames _ _ _ _ _ _ c.requires c.put_opening-opening.ensures c.put_opening-opening.auto.buf c.in_force-enable.ensures in
-    record { sender_value = before.0; store_length_in_bounds = before.1.0; zeros_le_at = before.1.1 }
+    record { sender_value = before.0; long_enough = before.1.0; zeros_le_at = before.1.1 }
 
 pub close-requires : goal.close-requires
 close-requires c =

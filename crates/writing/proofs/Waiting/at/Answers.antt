@@ -1,48 +1,49 @@
--- `writing::Waiting::at` meets its contract: in a record in range the circuit is one of four, and its message lies in the store.
+-- `writing::Waiting::at` meets its contract: in a record in range the circuit is one of four, and its message lies in the store or in the long buffer.
 use Rattle.std.proofs.Common.{length, refl, ap, ◌∙◌, arith}
 use Rattle.packet.specs.Circuits.{no_circuit}
-use Rattle.packet.specs.Messages.{longest}
-use Rattle.packet.specs.Stores.{region}
-use Rattle.offering.specs.Record.{no_slot, slot_at, store_length}
-use Rattle.offering.proofs.Ranges.{slot_in_range-slot_at}
-use Rattle.writing.proofs.FrameLength.{circuit_lt, slot_at_short, message_at_part, length-message_at, extended_lt}
+use Rattle.packet.specs.Stores.{stores_of}
+use Rattle.offering.specs.Record.{no_slot, slot_at, message_at}
+use Rattle.offering.proofs.Ranges.{slot_in_range-wide}
+use Rattle.writing.proofs.FrameLength.{circuit_lt, long_within, length-message_at, extended_lt}
 use Rattle.writing.proofs.Waiting.at.Goals as goal
 
 pub offset_bounds-sender-circuit : goal.offset_bounds-sender-circuit
 offset_bounds-sender-circuit c =
     let r = c.requires in
-    omega (arith, circuit_lt _ _ _ r.sender_value r.circuit_lt_count r.store_length_in_bounds)
+    omega (arith, circuit_lt _ _ _ r.sender_value r.circuit_lt_count r.long_enough)
 
 pub bounds-sender-circuit : goal.bounds-sender-circuit
 bounds-sender-circuit c =
     let r = c.requires in
-    circuit_lt _ _ _ r.sender_value r.circuit_lt_count r.store_length_in_bounds
+    circuit_lt _ _ _ r.sender_value r.circuit_lt_count r.long_enough
 
 pub bounds-sender-circuit-2 : goal.bounds-sender-circuit-2
 bounds-sender-circuit-2 c =
     let r = c.requires in
-    circuit_lt _ _ _ r.sender_value r.circuit_lt_count r.store_length_in_bounds
+    circuit_lt _ _ _ r.sender_value r.circuit_lt_count r.long_enough
 
-pub slice_bounds-result-end : goal.slice_bounds-result-end
-unfolding slot_at no_slot longest store_length region
-slice_bounds-result-end c =
-    let r = c.requires in
-    let below = circuit_lt _ _ _ r.sender_value r.circuit_lt_count r.store_length_in_bounds in
-    omega (arith, slot_at_short _ _ _ r.sender_value r.circuit_lt_count r.store_length_in_bounds)
+pub message_of-requires : goal.message_of-requires
+unfolding slot_at no_slot
+message_of-requires c =
+    let r = c.requires in (
+      circuit_lt _ _ _ r.sender_value r.circuit_lt_count r.long_enough,
+      r.long_enough.store,
+      long_within _ _ _ r.sender_value r.circuit_lt_count r.long_enough,
+    )
 
 pub invariant_of-result : goal.invariant_of-result
-unfolding slot_at no_slot no_circuit region
+unfolding slot_at no_slot no_circuit message_at
 invariant_of-result c =
     let s = c.args.sender.now in
+    let l = stores_of c.args.lent in
     let r = c.requires in
     record {
-      in_range = slot_in_range-slot_at s c.args.circuit r.sender_value r.circuit_lt_count;
+      in_range = slot_in_range-wide l.given s c.args.circuit r.sender_value r.circuit_lt_count;
       waits = r.circuit_value;
-      extended = extended_lt s c.args.store.now c.args.circuit r.sender_value r.circuit_lt_count r.store_length_in_bounds;
-      whole = ap length (message_at_part s c.args.store.now c.args.circuit)
-          ∙ length-message_at s c.args.store.now c.args.circuit r.sender_value r.circuit_lt_count r.store_length_in_bounds;
+      extended = extended_lt s l c.args.circuit r.sender_value r.circuit_lt_count r.long_enough;
+      whole = ap length c.message_of.ensures ∙ length-message_at s l c.args.circuit r.sender_value r.circuit_lt_count r.long_enough;
     }
 
 pub returns : goal.returns
-unfolding slot_at no_slot no_circuit region
-returns c = (refl, refl, message_at_part c.args.sender.now c.args.store.now c.args.circuit)
+unfolding slot_at no_slot no_circuit message_at
+returns c = (refl, refl, c.message_of.ensures)

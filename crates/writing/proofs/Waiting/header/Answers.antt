@@ -4,17 +4,12 @@ use mathlib.Core.List.{[]}
 use mathlib.Core.Path.{◌∙◌}
 use Rattle.hdlc.specs.Leads.{led}
 use Rattle.hdlc.proofs.Leads.{led_two}
-use Rattle.offering.proofs.Ranges.{slot_in_range_facts}
 use Rattle.writing.proofs.PacketWriting.{header_at_later, header_at_one, header_at_two}
 use Rattle.writing.proofs.Waiting.header.Goals as goal
 
 pub returns-then-self-ne0 : goal.returns-then-self-ne0
 unfolding led
 returns-then-self-ne0 c = (header_at_later c.args.self.now.slot c.if-self-ne0.true, omega arith, omega arith)
-
-pub header_first-first-requires : goal.header_first-first-requires
-header_first-first-requires c =
-    (slot_in_range_facts c.args.self.now.slot c.args.self.now.in_range).short
 
 pub returns-then-header_length-eq1 : goal.returns-then-header_length-eq1
 unfolding led
@@ -25,10 +20,6 @@ returns-then-header_length-eq1 c =
       omega (arith, number.small 1 (omega arith)),
       omega arith,
     )
-
-pub header_second-requires : goal.header_second-requires
-header_second-requires c =
-    (slot_in_range_facts c.args.self.now.slot c.args.self.now.in_range).short
 
 pub returns : goal.returns
 unfolding led

@@ -1,6 +1,6 @@
--- `aes18::aes18_sender_offer` meets its contract: numbers above a byte are refused as the clipped ones are.
+-- `aes18::offer` meets its contract: numbers above a byte are refused as the clipped ones are.
 use Rattle.aes18.proofs.SenderOutcomes.{offer_called}
-use Rattle.aes18.proofs.aes18_sender_offer.Goals as goal
+use Rattle.aes18.proofs.offer.Goals as goal
 
 pub returns : goal.returns
 returns c =

@@ -1,9 +1,9 @@
--- `sender::blocks::make_block` meets its contract: a refusal leaves all as it was, and otherwise the block is written.
+-- `sender::blocks::make` meets its contract: a refusal leaves all as it was, and otherwise the block is written.
 use mathlib.Core.Path.{sym}
 use Rattle.packet.proofs.AnswerNumbers.{answer_of-Ok}
 use Rattle.std.proofs.lemmas.Result.{err_from_is_err_and}
 use Rattle.sender.proofs.BlockSteps.{BlockCalled_refused, BlockCalled-made}
-use Rattle.sender.proofs.blocks.make_block.Goals as goal
+use Rattle.sender.proofs.blocks.make.Goals as goal
 
 pub write_block-block-requires : goal.write_block-block-requires
 write_block-block-requires c = answer_of-Ok _ _ (sym c.in_ok-check.ensures)

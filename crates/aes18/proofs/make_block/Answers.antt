@@ -1,11 +1,11 @@
--- `aes18::aes18_sender_block` meets its contract: numbers above a byte are refused as the clipped ones are.
+-- `aes18::make_block` meets its contract: numbers above a byte are refused as the clipped ones are.
 use mathlib.Core.Bool.{not}
 use mathlib.Core.Path.{refl}
 use native.Mathlib.Omega.{arith}
 use lib.Dec.{eqb}
 use Rattle.sender.specs.declared.SystemPacket.{SystemPacket}
 use Rattle.aes18.proofs.SenderOutcomes.{block_called, then_some-cond}
-use Rattle.aes18.proofs.aes18_sender_block.Goals as goal
+use Rattle.aes18.proofs.make_block.Goals as goal
 
 pub returns : goal.returns
 returns c =
