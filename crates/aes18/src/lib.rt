@@ -141,7 +141,7 @@ pub fn aes18_sender_offer_long(
 #[tactic(auto, unfolding(crate::specs::Room::no_room, crate::specs::SenderCalls::block_answered, crate::specs::SenderCalls::block_record, crate::specs::SenderCalls::block_written, crate::specs::SenderCalls::block_answer))]
 fn make_block(
     record: &mut [u8],
-    lent: Stores<'_>,
+    lent: &Stores<'_>,
     n: u64,
     u: u64,
     system: u64,
@@ -151,10 +151,10 @@ fn make_block(
     block: &mut [u8],
     answer: &mut [u8],
 ) -> u32
-    ensures { (result ≡ sends.block_answered «record».old (stores_of lent.entry) n u (system_asked system enable code info.now) block.old answer.old)
-        × («record».new ≡ sends.block_record «record».old (stores_of lent.entry) n u (system_asked system enable code info.now) block.old answer.old)
-        × (block.new ≡ sends.block_written «record».old (stores_of lent.entry) n u (system_asked system enable code info.now) block.old answer.old)
-        × (answer.new ≡ sends.block_answer «record».old (stores_of lent.entry) n u (system_asked system enable code info.now) block.old answer.old) }
+    ensures { (result ≡ sends.block_answered «record».old (stores_of lent.now) n u (system_asked system enable code info.now) block.old answer.old)
+        × («record».new ≡ sends.block_record «record».old (stores_of lent.now) n u (system_asked system enable code info.now) block.old answer.old)
+        × (block.new ≡ sends.block_written «record».old (stores_of lent.now) n u (system_asked system enable code info.now) block.old answer.old)
+        × (answer.new ≡ sends.block_answer «record».old (stores_of lent.now) n u (system_asked system enable code info.now) block.old answer.old) }
 {
     if record.len() < sender_layout::LENGTH {
         return NO_ROOM;
@@ -196,7 +196,7 @@ pub fn aes18_sender_block(
 {
     make_block(
         record,
-        Stores::alone(store),
+        &Stores::alone(store),
         n,
         u,
         system,
@@ -230,7 +230,7 @@ pub fn aes18_sender_block_beside(
 {
     make_block(
         record,
-        Stores::beside(store, buffer),
+        &Stores::beside(store, buffer),
         n,
         u,
         system,

@@ -50,13 +50,13 @@ fn put_opening(buf: &mut [u8], system: Option<SystemPacket<'_>>) -> Framed
 
 // The frame that is next at a circuit, with its flag, does not pass u. Only near u is it measured, written into an array of its own.
 // Stays: (d) the facts are those that `writing::put_next` asks for: as a struct this is `fits(Next { sender, lent, circuit }, at, u)`, and its one caller calls `put_next` with the three parts.
-fn fits(sender: Sender, lent: Stores<'_>, circuit: usize, at: usize, u: usize) -> bool
-    requires sender_value { in_range lent.given sender ≡ true }
-    requires circuit_lt_count { circuit < sender.circuits.count }
-    requires circuit_value { pending (slot_at sender circuit) ≡ true }
-    requires long_enough { LongEnough (stores_of lent) }
+fn fits(sender: &Sender, lent: &Stores<'_>, circuit: usize, at: usize, u: usize) -> bool
+    requires sender_value { in_range lent.now.given sender.now ≡ true }
+    requires circuit_lt_count { circuit < sender.now.circuits.count }
+    requires circuit_value { pending (slot_at sender.now circuit) ≡ true }
+    requires long_enough { LongEnough (stores_of lent.now) }
     requires at_le_u { (at ≤ u) × (u ≤ 27000) }
-    ensures { result ≡ leb (at + length (next_frame sender (stores_of lent.entry) circuit)) u }
+    ensures { result ≡ leb (at + length (next_frame sender.now (stores_of lent.now) circuit)) u }
 {
     if at + LONGEST <= u {
         return true;
@@ -67,21 +67,21 @@ fn fits(sender: Sender, lent: Stores<'_>, circuit: usize, at: usize, u: usize) -
 }
 
 // Frames behind what is written already, each with a flag after it, until none waits or the next would pass u; the zeros are counted on from there.
-fn fill(buf: &mut [u8], sender: &mut Sender, lent: Stores<'_>, front: Framed, u: usize) -> Block
-    requires sender_value { in_range lent.given sender.old ≡ true }
-    requires long_enough { LongEnough (stores_of lent) }
+fn fill(buf: &mut [u8], sender: &mut Sender, lent: &Stores<'_>, front: Framed, u: usize) -> Block
+    requires sender_value { in_range lent.now.given sender.old ≡ true }
+    requires long_enough { LongEnough (stores_of lent.now) }
     requires zeros_le_at { (front.zeros ≤ front.at) × (front.at ≤ u) × (u ≤ 8 * length buf.old) × (u ≤ 27000) }
-    ensures { FramesWritten buf.old front (fill_up sender.old (stores_of lent.entry) front.at sender.old.enable u) buf.new sender.new result }
+    ensures { FramesWritten buf.old front (fill_up sender.old (stores_of lent.now) front.at sender.old.enable u) buf.new sender.new result }
 {
     let enable = sender.enable;
     let mut used = front.at;
     let mut placed = 0;
     let mut zeros = front.zeros;
     while let Some(circuit) = rule::pick(*sender, enable) {
-        if !fits(*sender, lent, circuit, used, u) {
+        if !fits(sender, lent, circuit, used, u) {
             break;
         }
-        let framed = writing::put_next(buf, used, *sender, lent, circuit);
+        let framed = writing::put_next(buf, used, sender, lent, circuit);
         used = framed.at;
         zeros += framed.zeros;
         rule::serve(sender, circuit);
@@ -126,8 +126,8 @@ fn check_system(system: Option<SystemPacket<'_>>) -> Answer
 
 // A block call to a sender in range is refused, or not.
 #[tactic(auto, unfolding(crate::specs::Blocks::block_refusal, crate::specs::Blocks::wrong_size, crate::specs::Blocks::short_buffer, offering::specs::Record::store_length, packet::specs::Stores::region, packet::specs::Answers::answer_of, packet::specs::Answers::answered, packet::specs::Answers::refusal_of))]
-pub fn check_later(lent: Stores<'_>, buf: &[u8], request: &BlockRequest<'_>) -> Answer
-    ensures { (s : Sender) → in_range lent.entry.given s ≡ true → result ≡ answer_of (block_refusal s (stores_of lent.entry) buf.now request.now.n request.now.u (asked request.now.system)) }
+pub fn check_later(lent: &Stores<'_>, buf: &[u8], request: &BlockRequest<'_>) -> Answer
+    ensures { (s : Sender) → in_range lent.now.given s ≡ true → result ≡ answer_of (block_refusal s (stores_of lent.now) buf.now request.now.n request.now.u (asked request.now.system)) }
 {
     if lent.store.len() < Sender::STORE {
         return Err(Refusal::ShortStore);
@@ -146,8 +146,8 @@ pub fn check_later(lent: Stores<'_>, buf: &[u8], request: &BlockRequest<'_>) -> 
 
 // A block call is refused, or not.
 #[tactic(auto, unfolding(crate::specs::Blocks::block_refusal, packet::specs::Answers::answer_of, packet::specs::Answers::answered, packet::specs::Answers::refusal_of))]
-fn check(sender: &Sender, lent: Stores<'_>, buf: &[u8], request: &BlockRequest<'_>) -> Answer
-    ensures { result ≡ answer_of (block_refusal sender.now (stores_of lent.entry) buf.now request.now.n request.now.u (asked request.now.system)) }
+fn check(sender: &Sender, lent: &Stores<'_>, buf: &[u8], request: &BlockRequest<'_>) -> Answer
+    ensures { result ≡ answer_of (block_refusal sender.now (stores_of lent.now) buf.now request.now.n request.now.u (asked request.now.system)) }
 {
     if !sender.in_range(lent.given) {
         return Err(Refusal::OutOfRange);
@@ -158,12 +158,12 @@ fn check(sender: &Sender, lent: Stores<'_>, buf: &[u8], request: &BlockRequest<'
 // A block that no refusal stops.
 pub fn write_block(
     sender: &mut Sender,
-    lent: Stores<'_>,
+    lent: &Stores<'_>,
     buf: &mut [u8],
     request: &BlockRequest<'_>,
 ) -> Block
-    requires { block_refusal sender.old (stores_of lent) buf.old request.now.n request.now.u (asked request.now.system) ≡ 0 }
-    ensures { BlockWritten sender.old (stores_of lent.entry) buf.old request.now.n request.now.u (asked request.now.system) buf.new sender.new result }
+    requires { block_refusal sender.old (stores_of lent.now) buf.old request.now.n request.now.u (asked request.now.system) ≡ 0 }
+    ensures { BlockWritten sender.old (stores_of lent.now) buf.old request.now.n request.now.u (asked request.now.system) buf.new sender.new result }
 {
     let opening = put_opening(buf, request.system);
     let enable = in_force(sender.enable, request.system);
@@ -177,11 +177,11 @@ pub fn write_block(
 // system packet's enable bits are in force from then on.
 fn make(
     sender: &mut Sender,
-    lent: Stores<'_>,
+    lent: &Stores<'_>,
     buf: &mut [u8],
     request: &BlockRequest<'_>,
 ) -> Result<Block, Refusal>
-    ensures { BlockCalled sender.old (stores_of lent.entry) buf.old request.now.n request.now.u (asked request.now.system) buf.new sender.new result }
+    ensures { BlockCalled sender.old (stores_of lent.now) buf.old request.now.n request.now.u (asked request.now.system) buf.new sender.new result }
 {
     check(sender, lent, buf, request)?;
     let block = write_block(sender, lent, buf, request);
@@ -197,7 +197,7 @@ pub fn make_block(
 ) -> Result<Block, Refusal>
     ensures { BlockCalled sender.old (store_alone store.now) buf.old request.now.n request.now.u (asked request.now.system) buf.new sender.new result }
 {
-    make(sender, Stores::alone(store), buf, request)
+    make(sender, &Stores::alone(store), buf, request)
 }
 
 // A block made from the messages in the store and in the long buffer, by an end that has it.
@@ -210,5 +210,5 @@ pub fn make_block_beside(
 ) -> Result<Block, Refusal>
     ensures { BlockCalled sender.old (stores store.now true long.now) buf.old request.now.n request.now.u (asked request.now.system) buf.new sender.new result }
 {
-    make(sender, Stores::beside(store, long), buf, request)
+    make(sender, &Stores::beside(store, long), buf, request)
 }

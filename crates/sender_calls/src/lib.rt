@@ -135,16 +135,16 @@ pub fn offer_long(record: &mut [u8], store: &[u8], long: &mut [u8], offer: LongO
 // A block, as the request asks for it.
 pub fn block(
     record: &mut [u8],
-    lent: Stores<'_>,
+    lent: &Stores<'_>,
     request: &BlockRequest<'_>,
     buf: &mut [u8],
     answer: &mut [u8],
 ) -> Answer
     requires { (sender_length ≤ length «record».old) × (block_answer_length ≤ length answer.old) }
-    ensures { (result ≡ answer_of (block_refusal (sender_in «record».old) (stores_of lent.entry) buf.old request.now.n request.now.u (asked request.now.system)))
-        × («record».new ≡ record_after_block «record».old (stores_of lent.entry) request.now.n request.now.u (asked request.now.system) buf.old)
-        × (buf.new ≡ buffer_after_block (sender_in «record».old) (stores_of lent.entry) buf.old request.now.n request.now.u (asked request.now.system))
-        × (answer.new ≡ answer_after_block «record».old (stores_of lent.entry) request.now.n request.now.u (asked request.now.system) buf.old answer.old) }
+    ensures { (result ≡ answer_of (block_refusal (sender_in «record».old) (stores_of lent.now) buf.old request.now.n request.now.u (asked request.now.system)))
+        × («record».new ≡ record_after_block «record».old (stores_of lent.now) request.now.n request.now.u (asked request.now.system) buf.old)
+        × (buf.new ≡ buffer_after_block (sender_in «record».old) (stores_of lent.now) buf.old request.now.n request.now.u (asked request.now.system))
+        × (answer.new ≡ answer_after_block «record».old (stores_of lent.now) request.now.n request.now.u (asked request.now.system) buf.old answer.old) }
 {
     if !in_range(record, lent.given) {
         return Err(Refusal::OutOfRange);

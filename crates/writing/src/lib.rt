@@ -41,9 +41,9 @@ struct Waiting<'a> {
 // A message of n bytes at a circuit: a long one at the start of the long buffer, any other at the start of the circuit's region.
 // Stays: (d) the lengths are asked of stores that have just been let pass, and the circuit of a record in range: a type for that would be taken apart again here.
 #[tactic(auto, unfolding(offering::specs::Record::message_of, offering::specs::Record::store_length, packet::specs::Stores::region, packet::specs::Messages::longest))]
-fn message_of(lent: Stores<'_>, circuit: usize, n: usize) -> &[u8]
-    requires { (circuit < 4) × (store_length ≤ length lent.store.now) × (longest < n → n ≤ length lent.long.now) }
-    ensures { result.now ≡ message_of (stores_of lent.entry) circuit n }
+fn message_of<'a>(lent: &Stores<'a>, circuit: usize, n: usize) -> &'a [u8]
+    requires { (circuit < 4) × (store_length ≤ length lent.now.store.now) × (longest < n → n ≤ length lent.now.long.now) }
+    ensures { result.now ≡ message_of (stores_of lent.now) circuit n }
 {
     if packet::LONGEST_MESSAGE < n {
         return &lent.long[..n];
@@ -55,13 +55,13 @@ fn message_of(lent: Stores<'_>, circuit: usize, n: usize) -> &[u8]
 
 impl<'a> Waiting<'a> {
     // What waits first at a circuit of a sender, with its message.
-    fn at(sender: &Sender, lent: Stores<'a>, circuit: usize) -> Waiting<'a>
-        requires sender_value { in_range lent.given sender.now ≡ true }
+    fn at(sender: &Sender, lent: &Stores<'a>, circuit: usize) -> Waiting<'a>
+        requires sender_value { in_range lent.now.given sender.now ≡ true }
         requires circuit_lt_count { circuit < sender.now.circuits.count }
         requires circuit_value { pending (slot_at sender.now circuit) ≡ true }
-        requires long_enough { LongEnough (stores_of lent) }
+        requires long_enough { LongEnough (stores_of lent.now) }
         ensures { (result.circuit ≡ slice_index_or sender.now.circuits.list circuit no_circuit) × (result.slot ≡ slot_at sender.now circuit)
-            × (result.message.now ≡ message_at sender.now (stores_of lent.entry) circuit) }
+            × (result.message.now ≡ message_at sender.now (stores_of lent.now) circuit) }
     {
         let slot = sender.slots[circuit];
         Waiting {
@@ -156,17 +156,17 @@ impl<'a> Waiting<'a> {
 pub fn put_next(
     buf: &mut [u8],
     at: usize,
-    sender: Sender,
-    lent: Stores<'_>,
+    sender: &Sender,
+    lent: &Stores<'_>,
     circuit: usize,
 ) -> Framed
-    requires sender_value { in_range lent.given sender ≡ true }
-    requires circuit_lt_count { circuit < sender.circuits.count }
-    requires circuit_value { pending (slot_at sender circuit) ≡ true }
-    requires long_enough { LongEnough (stores_of lent) }
-    requires room { Room buf.old at (next_frame sender (stores_of lent) circuit) }
-    ensures { FrameWritten buf.old at (next_packet sender (stores_of lent.entry) circuit) buf.new result }
+    requires sender_value { in_range lent.now.given sender.now ≡ true }
+    requires circuit_lt_count { circuit < sender.now.circuits.count }
+    requires circuit_value { pending (slot_at sender.now circuit) ≡ true }
+    requires long_enough { LongEnough (stores_of lent.now) }
+    requires room { Room buf.old at (next_frame sender.now (stores_of lent.now) circuit) }
+    ensures { FrameWritten buf.old at (next_packet sender.now (stores_of lent.now) circuit) buf.new result }
 {
-    let waiting = Waiting::at(&sender, lent, circuit);
+    let waiting = Waiting::at(sender, lent, circuit);
     waiting.put(buf, at)
 }

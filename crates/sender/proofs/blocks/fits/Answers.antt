@@ -10,13 +10,13 @@ pub returns-then-at-u : goal.returns-then-at-u
 returns-then-at-u c =
     let a = c.args in
     let p = c.requires in
-    fits-longest a.sender (stores_of a.lent) a.circuit p.sender_value p.circuit_lt_count p.long_enough p.circuit_value a.at a.u c.if-at-u.true
+    fits-longest a.sender.now (stores_of a.lent.now) a.circuit p.sender_value p.circuit_lt_count p.long_enough p.circuit_value a.at a.u c.if-at-u.true
 
 pub put_next-measured-requires-clause-room : goal.put_next-measured-requires-clause-room
 put_next-measured-requires-clause-room c =
     let a = c.args in
     let p = c.requires in
-    next_frame_room a.sender (stores_of a.lent) a.circuit p.sender_value p.circuit_lt_count p.long_enough p.circuit_value _ refl
+    next_frame_room a.sender.now (stores_of a.lent.now) a.circuit p.sender_value p.circuit_lt_count p.long_enough p.circuit_value _ refl
 
 pub overflow_add-result : goal.overflow_add-result
 overflow_add-result c =
@@ -24,12 +24,12 @@ overflow_add-result c =
     let p = c.requires in
     record {
       fits =
-          next_frame_small a.sender (stores_of a.lent) a.circuit p.sender_value p.circuit_lt_count p.long_enough p.circuit_value a.at
+          next_frame_small a.sender.now (stores_of a.lent.now) a.circuit p.sender_value p.circuit_lt_count p.long_enough p.circuit_value a.at
           c.put_next-measured.result.at (omega (arith, p.at_le_u))
-          (next_frame_end a.sender (stores_of a.lent) a.circuit c.put_next-measured.ensures);
+          (next_frame_end a.sender.now (stores_of a.lent.now) a.circuit c.put_next-measured.ensures);
     }
 
 pub returns : goal.returns
 returns c =
     let a = c.args in
-    rw (next_frame_end a.sender (stores_of a.lent) a.circuit c.put_next-measured.ensures ∙ zero-add _)
+    rw (next_frame_end a.sender.now (stores_of a.lent.now) a.circuit c.put_next-measured.ensures ∙ zero-add _)

@@ -35,7 +35,7 @@ pub invariant_of-result : goal.invariant_of-result
 unfolding slot_at no_slot no_circuit message_at
 invariant_of-result c =
     let s = c.args.sender.now in
-    let l = stores_of c.args.lent in
+    let l = stores_of c.args.lent.now in
     let r = c.requires in
     record {
       in_range = slot_in_range-wide l.given s c.args.circuit r.sender_value r.circuit_lt_count;
